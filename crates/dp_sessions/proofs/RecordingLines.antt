@@ -130,11 +130,10 @@ stopped_line driven recorded held p q text old new answered written (inr unrecor
   written = whole_prefix at_first new (concat s.texts) (subst (λ w. Appends at_first w (concat s.texts)) (sym unrecorded.1) s.written);
 }
 
-pub line_stopped : {T E : Type 0} (r : Result T E) (driven : List DrivenSlave) (recorded : ℕ → Type 0) (held : List ℕ) (octet : ℕ) (p q : PassView) (text : List ℕ) (old new : Option (List ℕ))
-    → octet ≡ line_feed → IsAnswered driven held p q text → OnErr r (WritesPrefix old new text) → OnErr r (StopsAnswer recorded p.receipts q.receipts old new)
-    → OnErr r (StopsOff driven recorded (octet ∷ []) held p q old new)
-line_stopped (Ok x) driven recorded held octet p q text old new is answered written stop = tt
-line_stopped (Err e) driven recorded held octet p q text old new is answered written stop =
+pub line_stopped : (driven : List DrivenSlave) (recorded : ℕ → Type 0) (held : List ℕ) (octet : ℕ) (p q : PassView) (text : List ℕ) (old new : Option (List ℕ))
+    → octet ≡ line_feed → IsAnswered driven held p q text → WritesPrefix old new text → StopsAnswer recorded p.receipts q.receipts old new
+    → StopsOff driven recorded (octet ∷ []) held p q old new
+line_stopped driven recorded held octet p q text old new is answered written stop =
     subst (λ o. StopsOff driven recorded (o ∷ []) held p q old new) (sym is) (stopped_line driven recorded held p q text old new answered written stop)
 
 -- ---- octets, one after another

@@ -14,3 +14,4 @@ pub mod Recording
 pub mod ServedJobs
 pub mod KeptSessions
 pub mod KeptAt
+pub mod SessionSteps

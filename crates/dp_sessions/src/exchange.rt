@@ -1,15 +1,13 @@
 //! Exchanges of an accepted session, and sessions that a given pass serves.
 
-ghost use Rattle.std.specs.Prelude.{◌≡◌, ◌≢◌, ◌+◌, ◌≤◌, ℕ, true, List, [], ◌∷◌, ◌++◌, length, map, OnErr, OnOk};
-ghost use Rattle.std.specs.List.{concat};
-ghost use Rattle.std.specs.Io.KnownBytes.{Appends, Consumes};
-ghost use Rattle.dp_telegram.specs.Stream.{cut_length, cut_lent, cuts_of, uncut};
-ghost use Rattle.dp_audit.specs.declared.entry.Receipt.{Receipt as TheReceipt};
+ghost use Rattle.std.specs.Prelude.{◌≡◌, ◌≢◌, ◌+◌, ◌≤◌, ℕ, true, List, [], ◌∷◌, ◌++◌, length, OnErr, OnOk};
+ghost use Rattle.std.specs.Io.KnownBytes.{Consumes};
+ghost use Rattle.dp_telegram.specs.Stream.{cut_lent};
+ghost use Rattle.dp_shared.specs.Sending.{IsSamePass};
 ghost use Rattle.dp_shared.specs.Passes.{table_of};
 ghost use Rattle.dp_sessions.specs.Recorded.{WritesRecorded};
-ghost use Rattle.dp_sessions.specs.Recording.{RepliesRecorded, StopsRecorded};
-ghost use Rattle.dp_sessions.specs.Sessions.{Accepts, AreExchanged, HasExchanged, IsCutOff, acceptance, octets_of, reply_in};
-ghost use Rattle.dp_sessions.specs.SessionProgress.{IsBrokenIn, IsServedTo};
+ghost use Rattle.dp_sessions.specs.Sessions.{Accepts, HasExchanged, acceptance, octets_of};
+ghost use Rattle.dp_sessions.specs.SessionSteps.{PieceIsCutOff, PieceIsServed, StreamIsCutOff, StreamIsServed};
 
 use crate::dropped::DroppedOctets;
 use crate::gate::Gate;
@@ -148,19 +146,11 @@ fn pass_octets<T: Wait, W: Write, G: Gate>(
     requires ours { pass.old.table ≡ table_of line.now }
     requires master { pass.old.view.address ≢ 127 }
     requires most { length cutter.old ≤ 255 }
-    ensures ours { pass.new.table ≡ pass.old.table }
-    ensures number { pass.new.line ≡ pass.old.line }
-    ensures address { pass.new.view.address ≡ pass.old.view.address }
-    ensures most { OnOk result (length cutter.new ≤ 255) }
-    ensures ok { OnOk result (IsServedTo pass.old.view.address (cutter.old ++ octets.now) cutter.new
+    ensures same { IsSamePass pass.old pass.new }
+    ensures ok { OnOk result (StreamIsServed (G.recorded gate.now pass.old.line) pass.old.view.address (cutter.old ++ octets.now) cutter.new
         pass.old.view pass.new.view (W.contents writer.old) (W.contents writer.new)) }
-    ensures rest { OnOk result (cuts_of cutter.new ≡ uncut cutter.new) }
-    ensures err { OnErr result (IsBrokenIn pass.old.view.address (cutter.old ++ octets.now)
+    ensures err { OnErr result (StreamIsCutOff (G.recorded gate.now pass.old.line) pass.old.view.address (cutter.old ++ octets.now)
         pass.old.view pass.new.view (W.contents writer.old) (W.contents writer.new)) }
-    ensures recorded { OnOk result (RepliesRecorded (G.recorded gate.now pass.old.line) pass.old.view.receipts pass.new.view.receipts
-        (W.contents writer.old) (W.contents writer.new)) }
-    ensures stopped { OnErr result (StopsRecorded (G.recorded gate.now pass.old.line) pass.old.view.receipts pass.new.view.receipts
-        (W.contents writer.old) (W.contents writer.new)) }
 {
     let mut left = octets;
     let mut dropped = DroppedOctets::default();
@@ -207,17 +197,11 @@ fn answer<T: Wait, W: Write, G: Gate>(
     requires ours { pass.old.table ≡ table_of line.now }
     requires master { pass.old.view.address ≢ 127 }
     requires few { length octets.now ≤ 255 }
-    ensures ours { pass.new.table ≡ pass.old.table }
-    ensures number { pass.new.line ≡ pass.old.line }
-    ensures address { pass.new.view.address ≡ pass.old.view.address }
-    ensures ok { OnOk result ((receipts : List TheReceipt) × AreExchanged pass.old.view.address (cut_lent piece.entry ∷ []) receipts pass.old.view pass.new.view
-        × Appends (W.contents writer.old) (W.contents writer.new) (concat (map reply_in receipts))) }
-    ensures err { OnErr result ((receipts : List TheReceipt) × AreExchanged pass.old.view.address (cut_lent piece.entry ∷ []) receipts pass.old.view pass.new.view
-        × IsCutOff (W.contents writer.old) (W.contents writer.new) (map reply_in receipts)) }
-    ensures recorded { OnOk result (RepliesRecorded (G.recorded gate.now pass.old.line) pass.old.view.receipts pass.new.view.receipts
-        (W.contents writer.old) (W.contents writer.new)) }
-    ensures stopped { OnErr result (StopsRecorded (G.recorded gate.now pass.old.line) pass.old.view.receipts pass.new.view.receipts
-        (W.contents writer.old) (W.contents writer.new)) }
+    ensures same { IsSamePass pass.old pass.new }
+    ensures ok { OnOk result (PieceIsServed (G.recorded gate.now pass.old.line) pass.old.view.address (cut_lent piece.entry ∷ [])
+        pass.old.view pass.new.view (W.contents writer.old) (W.contents writer.new)) }
+    ensures err { OnErr result (PieceIsCutOff (G.recorded gate.now pass.old.line) pass.old.view.address (cut_lent piece.entry ∷ [])
+        pass.old.view pass.new.view (W.contents writer.old) (W.contents writer.new)) }
 {
     match piece {
         Piece::Frame(frame) => {

@@ -1,16 +1,15 @@
 //! Sessions of operators with a line.
 
 ghost use Rattle.std.specs.Prelude.{◌≡◌, ◌+◌, ◌≤◌, true, [], ◌∷◌, ◌++◌, OnErr, OnOk};
-ghost use Rattle.std.specs.Io.KnownBytes.{Appends};
-ghost use Rattle.dp_text.specs.Writes.{WritesPrefix};
+ghost use Rattle.dp_shared.specs.Sending.{IsSamePass};
 ghost use Rattle.dp_shared.specs.Passes.{line_of, table_of};
 ghost use Rattle.rack_devices.specs.declared.driven_slave.TheConstants.{MOST_DRIVEN};
 ghost use Rattle.rack_devices.specs.DrivenSlaves.{driven_slaves as all_driven};
 ghost use Rattle.dp_sessions.specs.Operators.{HasOperatedBy, IsAnswered, IsOperatorSession};
-ghost use Rattle.dp_sessions.specs.Operating.{BreaksOff, GoesOn, kept};
+ghost use Rattle.dp_sessions.specs.Operating.{kept};
 ghost use Rattle.dp_sessions.specs.Ended.{IsOperatorSessionOf, end_of};
 ghost use Rattle.dp_sessions.specs.Recorded.{EndsOperatorRecorded, HasOperatedRecorded, IsRecordedOperatorSession};
-ghost use Rattle.dp_sessions.specs.Recording.{GainsRecorded, StopsAnswer, StopsOff};
+ghost use Rattle.dp_sessions.specs.SessionSteps.{AnswerIsCutOff, AnswerIsWritten, OctetsAreCutOff, OctetsAreTaken};
 
 use crate::gate::{Gate, OpenGate};
 use crate::operator_line::answer_line;
@@ -267,17 +266,12 @@ impl OperatorSession {
     ) -> Result<(), WriteFault>
         requires ours { pass.old.table ≡ table_of line.now }
         requires operator { pass.old.view.address ≡ 127 }
-        ensures ours { pass.new.table ≡ pass.old.table }
-        ensures number { pass.new.line ≡ pass.old.line }
-        ensures address { pass.new.view.address ≡ pass.old.view.address }
+        ensures same { IsSamePass pass.old pass.new }
         ensures driven { self.new.driven ≡ self.old.driven }
-        ensures ok { OnOk result (GoesOn self.old.driven.items octets.now self.old.begun.items self.new.begun.items
-            pass.old.view pass.new.view (W.contents writer.old) (W.contents writer.new)) }
-        ensures err { OnErr result (BreaksOff self.old.driven.items octets.now self.old.begun.items
-            pass.old.view pass.new.view (W.contents writer.old) (W.contents writer.new)) }
-        ensures recorded { OnOk result (GainsRecorded (G.recorded gate.now pass.old.line) pass.old.view.receipts pass.new.view.receipts) }
-        ensures stopped { OnErr result (StopsOff self.old.driven.items (G.recorded gate.now pass.old.line) octets.now self.old.begun.items
-            pass.old.view pass.new.view (W.contents writer.old) (W.contents writer.new)) }
+        ensures ok { OnOk result (OctetsAreTaken self.old.driven.items (G.recorded gate.now pass.old.line) octets.now
+            self.old.begun.items self.new.begun.items pass.old.view pass.new.view (W.contents writer.old) (W.contents writer.new)) }
+        ensures err { OnErr result (OctetsAreCutOff self.old.driven.items (G.recorded gate.now pass.old.line) octets.now
+            self.old.begun.items pass.old.view pass.new.view (W.contents writer.old) (W.contents writer.new)) }
     {
         let mut text = Text::new();
         let mut left = octets;
@@ -301,17 +295,12 @@ impl OperatorSession {
     ) -> Result<(), WriteFault>
         requires ours { pass.old.table ≡ table_of line.now }
         requires operator { pass.old.view.address ≡ 127 }
-        ensures ours { pass.new.table ≡ pass.old.table }
-        ensures number { pass.new.line ≡ pass.old.line }
-        ensures address { pass.new.view.address ≡ pass.old.view.address }
+        ensures same { IsSamePass pass.old pass.new }
         ensures driven { self.new.driven ≡ self.old.driven }
-        ensures ok { OnOk result (GoesOn self.old.driven.items (octet ∷ []) self.old.begun.items self.new.begun.items
-            pass.old.view pass.new.view (W.contents writer.old) (W.contents writer.new)) }
-        ensures err { OnErr result (BreaksOff self.old.driven.items (octet ∷ []) self.old.begun.items
-            pass.old.view pass.new.view (W.contents writer.old) (W.contents writer.new)) }
-        ensures recorded { OnOk result (GainsRecorded (G.recorded gate.now pass.old.line) pass.old.view.receipts pass.new.view.receipts) }
-        ensures stopped { OnErr result (StopsOff self.old.driven.items (G.recorded gate.now pass.old.line) (octet ∷ []) self.old.begun.items
-            pass.old.view pass.new.view (W.contents writer.old) (W.contents writer.new)) }
+        ensures ok { OnOk result (OctetsAreTaken self.old.driven.items (G.recorded gate.now pass.old.line) (octet ∷ [])
+            self.old.begun.items self.new.begun.items pass.old.view pass.new.view (W.contents writer.old) (W.contents writer.new)) }
+        ensures err { OnErr result (OctetsAreCutOff self.old.driven.items (G.recorded gate.now pass.old.line) (octet ∷ [])
+            self.old.begun.items pass.old.view pass.new.view (W.contents writer.old) (W.contents writer.new)) }
     {
         if octet == LF {
             return self.end_line(rt, writer, line, pass, gate, text);
@@ -342,17 +331,14 @@ impl OperatorSession {
     ) -> Result<(), WriteFault>
         requires ours { pass.old.table ≡ table_of line.now }
         requires operator { pass.old.view.address ≡ 127 }
-        ensures ours { pass.new.table ≡ pass.old.table }
-        ensures number { pass.new.line ≡ pass.old.line }
-        ensures address { pass.new.view.address ≡ pass.old.view.address }
+        ensures same { IsSamePass pass.old pass.new }
         ensures driven { self.new.driven ≡ self.old.driven }
         ensures begun { self.new.begun.items ≡ [] }
         ensures answered { IsAnswered self.old.driven.items self.old.begun.items pass.old.view pass.new.view text.new }
-        ensures ok { OnOk result (Appends (W.contents writer.old) (W.contents writer.new) text.new) }
-        ensures err { OnErr result (WritesPrefix (W.contents writer.old) (W.contents writer.new) text.new) }
-        ensures recorded { OnOk result (GainsRecorded (G.recorded gate.now pass.old.line) pass.old.view.receipts pass.new.view.receipts) }
-        ensures stopped { OnErr result (StopsAnswer (G.recorded gate.now pass.old.line) pass.old.view.receipts pass.new.view.receipts
-            (W.contents writer.old) (W.contents writer.new)) }
+        ensures ok { OnOk result (AnswerIsWritten (G.recorded gate.now pass.old.line) text.new
+            pass.old.view pass.new.view (W.contents writer.old) (W.contents writer.new)) }
+        ensures err { OnErr result (AnswerIsCutOff (G.recorded gate.now pass.old.line) text.new
+            pass.old.view pass.new.view (W.contents writer.old) (W.contents writer.new)) }
     {
         let recorded = answer_line(
             rt,

@@ -7,9 +7,7 @@ use Rattle.dp_sessions.proofs.exchange.pass_octets.Goals as goal
 
 pub loop-piece-init : goal.loop-piece-init
 loop-piece-init g c = record {
-  ours = refl;
-  number = refl;
-  address = refl;
+  same = record { table = refl; number = refl; address = refl };
   most = c.requires.most;
   served = served_none c.args.pass.now.view.address (c.args.cutter.now ++ c.args.octets.now) c.args.pass.now.view (g.W.Write.contents c.args.writer.now);
   replies = replies_none (g.G.Gate.recorded c.args.gate.now c.args.pass.now.line) c.args.pass.now.view.receipts (g.W.Write.contents c.args.writer.now);
@@ -21,46 +19,50 @@ loop-piece-preserved-in-Some g c =
     let stream : List ℕ = c.args.cutter.now ++ c.args.octets.now in
     let old = g.W.Write.contents c.args.writer.now in
     let new = g.W.Write.contents c.answer.new.writer in record {
-      ours = c.answer.ensures.ours ∙ c.loop-piece.invariant.ours;
-      number = c.answer.ensures.number ∙ c.loop-piece.invariant.number;
-      address = c.answer.ensures.address ∙ c.loop-piece.invariant.address;
+      same = record {
+        table = c.answer.ensures.same.table ∙ c.loop-piece.invariant.same.table;
+        number = c.answer.ensures.same.number ∙ c.loop-piece.invariant.same.number;
+        address = c.answer.ensures.same.address ∙ c.loop-piece.invariant.same.address;
+      };
       most = c.pass.ensures.most;
       served =
           piece_served master c.loop-piece.pass.view.address stream c.loop-piece.cutter c.loop-piece.left.now c.pass.new.self (cut_lent c.in-Some.piece)
           c.args.pass.now.view c.loop-piece.pass.view c.answer.new.pass.view old (g.W.Write.contents c.loop-piece.writer) new
-          c.loop-piece.invariant.address c.loop-piece.invariant.served
+          c.loop-piece.invariant.same.address c.loop-piece.invariant.served
           (λ more. c.in-Some.ensures.stream more ∙ ap (λ (behind : List ℕ). with_cut (cut_lent c.in-Some.piece) (cuts_of (behind ++ more)))
           (c.in-Some.ensures.left ∙ ap (λ count. drop count c.loop-piece.cutter) (sym c.size-count.ensures) ∙ sym c.pass.ensures.held))
-          c.in_ok-answer.ensures.ok;
+          c.in_ok-answer.ensures.ok.written;
       replies =
           replies_then (g.G.Gate.recorded c.args.gate.now c.args.pass.now.line) c.args.pass.now.view.receipts c.loop-piece.pass.view.receipts c.answer.new.pass.view.receipts
           old (g.W.Write.contents c.loop-piece.writer) new c.loop-piece.invariant.replies
           (replies_as (g.G.Gate.recorded c.args.gate.now) c.args.pass.now.line c.loop-piece.pass.line c.loop-piece.pass.view.receipts c.answer.new.pass.view.receipts
-          (g.W.Write.contents c.loop-piece.writer) new c.loop-piece.invariant.number c.in_ok-answer.ensures.recorded);
+          (g.W.Write.contents c.loop-piece.writer) new c.loop-piece.invariant.same.number c.in_ok-answer.ensures.ok.recorded);
     }
 
 pub returns-in_err-answer-clause-err : goal.returns-in_err-answer-clause-err
 returns-in_err-answer-clause-err g c =
-    on_err c.from_residual.result
-    (piece_broken c.args.pass.now.view.address c.loop-piece.pass.view.address (c.args.cutter.now ++ c.args.octets.now) c.loop-piece.cutter c.loop-piece.left.now (left_of c.loop-piece.cutter) (cut_lent c.in-Some.piece)
-    c.args.pass.now.view c.loop-piece.pass.view c.answer.new.pass.view (g.W.Write.contents c.args.writer.now) (g.W.Write.contents c.loop-piece.writer) (g.W.Write.contents c.answer.new.writer)
-    c.loop-piece.invariant.address c.loop-piece.invariant.served c.in-Some.ensures.stream c.in_err-answer.ensures.err)
-
-pub returns-then-is_empty-clause-ok : goal.returns-then-is_empty-clause-ok
-returns-then-is_empty-clause-ok g c =
-    subst
-    (λ (ahead : List ℕ).
-    IsServedTo c.args.pass.now.view.address (c.args.cutter.now ++ c.args.octets.now) ahead c.args.pass.now.view c.loop-piece.pass.view (g.W.Write.contents c.args.writer.now) (g.W.Write.contents c.loop-piece.writer))
-    (none_left c.loop-piece.cutter c.loop-piece.left.now (sym c.if-is_empty.ensures))
-    c.loop-piece.invariant.served
-
-pub returns-in_err-answer-clause-stopped : goal.returns-in_err-answer-clause-stopped
-returns-in_err-answer-clause-stopped g c =
     let old = g.W.Write.contents c.args.writer.now in
     let now = g.W.Write.contents c.loop-piece.writer in
     let new = g.W.Write.contents c.answer.new.writer in
     on_err c.from_residual.result
-    (stops_then (g.G.Gate.recorded c.args.gate.now c.args.pass.now.line) c.args.pass.now.view.receipts c.loop-piece.pass.view.receipts c.answer.new.pass.view.receipts
-    old now new c.loop-piece.invariant.replies
-    (stops_as (g.G.Gate.recorded c.args.gate.now) c.args.pass.now.line c.loop-piece.pass.line c.loop-piece.pass.view.receipts c.answer.new.pass.view.receipts
-    now new c.loop-piece.invariant.number c.in_err-answer.ensures.stopped))
+    (record {
+      broken = piece_broken c.args.pass.now.view.address c.loop-piece.pass.view.address (c.args.cutter.now ++ c.args.octets.now) c.loop-piece.cutter c.loop-piece.left.now (left_of c.loop-piece.cutter) (cut_lent c.in-Some.piece)
+          c.args.pass.now.view c.loop-piece.pass.view c.answer.new.pass.view (g.W.Write.contents c.args.writer.now) (g.W.Write.contents c.loop-piece.writer) (g.W.Write.contents c.answer.new.writer)
+          c.loop-piece.invariant.same.address c.loop-piece.invariant.served c.in-Some.ensures.stream c.in_err-answer.ensures.err.written;
+      recorded = stops_then (g.G.Gate.recorded c.args.gate.now c.args.pass.now.line) c.args.pass.now.view.receipts c.loop-piece.pass.view.receipts c.answer.new.pass.view.receipts
+          old now new c.loop-piece.invariant.replies
+          (stops_as (g.G.Gate.recorded c.args.gate.now) c.args.pass.now.line c.loop-piece.pass.line c.loop-piece.pass.view.receipts c.answer.new.pass.view.receipts
+          now new c.loop-piece.invariant.same.number c.in_err-answer.ensures.err.recorded);
+    })
+
+pub returns-then-is_empty-clause-ok : goal.returns-then-is_empty-clause-ok
+returns-then-is_empty-clause-ok g c = record {
+  most = c.loop-piece.invariant.most;
+  rest = c.in_default.ensures.rest;
+  served = subst
+      (λ (ahead : List ℕ).
+      IsServedTo c.args.pass.now.view.address (c.args.cutter.now ++ c.args.octets.now) ahead c.args.pass.now.view c.loop-piece.pass.view (g.W.Write.contents c.args.writer.now) (g.W.Write.contents c.loop-piece.writer))
+      (none_left c.loop-piece.cutter c.loop-piece.left.now (sym c.if-is_empty.ensures))
+      c.loop-piece.invariant.served;
+  recorded = c.loop-piece.invariant.replies;
+}

@@ -31,10 +31,10 @@ pub loop-made-preserved : goal.loop-made-preserved
 loop-made-preserved g c =
     let octets : List ℕ = take c.in-Ok.count c.read.new.buf in
     let some : 0 < length octets = omega (arith, length-take c.in-Ok.count c.read.new.buf, c.in-Ok.ensures.bound, c.in-Ok.count-test) in record {
-      ours = c.pass_octets.ensures.ours ∙ c.loop-made.invariant.ours;
-      number = c.pass_octets.ensures.number ∙ c.loop-made.invariant.number;
-      address = c.pass_octets.ensures.address ∙ c.loop-made.invariant.address;
-      most = c.in-Ok-pass_octets.ensures.most;
+      ours = c.pass_octets.ensures.same.table ∙ c.loop-made.invariant.ours;
+      number = c.pass_octets.ensures.same.number ∙ c.loop-made.invariant.number;
+      address = c.pass_octets.ensures.same.address ∙ c.loop-made.invariant.address;
+      most = c.in-Ok-pass_octets.ensures.ok.most;
       within = omega arith;
       counted = omega (arith, c.read.ensures.counted, c.loop-made.invariant.counted);
       way =
@@ -42,12 +42,12 @@ loop-made-preserved g c =
           c.args.pass.now.view c.loop-made.pass.view c.pass_octets.new.pass.view
           (g.R.Read.remaining c.args.reader.now) (g.R.Read.remaining c.loop-made.reader) (g.R.Read.remaining c.read.new.reader)
           (g.W.Write.contents c.args.writer.now) (g.W.Write.contents c.loop-made.writer) (g.W.Write.contents c.pass_octets.new.writer)
-          c.loop-made.invariant.address refl c.loop-made.invariant.way c.in-Ok.ensures.bytes.0 some c.in-Ok-pass_octets.ensures.ok c.in-Ok-pass_octets.ensures.rest;
+          c.loop-made.invariant.address refl c.loop-made.invariant.way c.in-Ok.ensures.bytes.0 some c.in-Ok-pass_octets.ensures.ok.served c.in-Ok-pass_octets.ensures.ok.rest;
       replies =
           replies_then (g.G.Gate.recorded c.args.gate.now c.args.pass.now.line) c.args.pass.now.view.receipts c.loop-made.pass.view.receipts c.pass_octets.new.pass.view.receipts
           (g.W.Write.contents c.args.writer.now) (g.W.Write.contents c.loop-made.writer) (g.W.Write.contents c.pass_octets.new.writer) c.loop-made.invariant.replies
           (replies_as (g.G.Gate.recorded c.args.gate.now) c.args.pass.now.line c.loop-made.pass.line c.loop-made.pass.view.receipts c.pass_octets.new.pass.view.receipts
-          (g.W.Write.contents c.loop-made.writer) (g.W.Write.contents c.pass_octets.new.writer) c.loop-made.invariant.number c.in-Ok-pass_octets.ensures.recorded);
+          (g.W.Write.contents c.loop-made.writer) (g.W.Write.contents c.pass_octets.new.writer) c.loop-made.invariant.number c.in-Ok-pass_octets.ensures.ok.recorded);
     }
 
 pub returns-in_default-clause-exchanged : goal.returns-in_default-clause-exchanged
@@ -59,7 +59,7 @@ returns-in_default-clause-exchanged g c =
     c.args.pass.now.view c.loop-made.pass.view c.pass_octets.new.pass.view
     (g.R.Read.remaining c.args.reader.now) (g.R.Read.remaining c.loop-made.reader) (g.R.Read.remaining c.read.new.reader)
     (g.W.Write.contents c.args.writer.now) (g.W.Write.contents c.loop-made.writer) (g.W.Write.contents c.pass_octets.new.writer)
-    c.cut_and_computation_agree.ensures.whole c.loop-made.invariant.address c.loop-made.invariant.way c.in-Ok.ensures.bytes.0 c.in_default.ensures.err)
+    c.cut_and_computation_agree.ensures.whole c.loop-made.invariant.address c.loop-made.invariant.way c.in-Ok.ensures.bytes.0 c.in_default.ensures.err.broken)
 
 pub returns-in-Err-clause-exchanged : goal.returns-in-Err-clause-exchanged
 returns-in-Err-clause-exchanged g c =
@@ -89,7 +89,7 @@ returns-in_default-clause-recorded g c =
     (stops_then (g.G.Gate.recorded c.args.gate.now c.args.pass.now.line) c.args.pass.now.view.receipts c.loop-made.pass.view.receipts c.pass_octets.new.pass.view.receipts
     (g.W.Write.contents c.args.writer.now) (g.W.Write.contents c.loop-made.writer) (g.W.Write.contents c.pass_octets.new.writer) c.loop-made.invariant.replies
     (stops_as (g.G.Gate.recorded c.args.gate.now) c.args.pass.now.line c.loop-made.pass.line c.loop-made.pass.view.receipts c.pass_octets.new.pass.view.receipts
-    (g.W.Write.contents c.loop-made.writer) (g.W.Write.contents c.pass_octets.new.writer) c.loop-made.invariant.number c.in_default.ensures.stopped))
+    (g.W.Write.contents c.loop-made.writer) (g.W.Write.contents c.pass_octets.new.writer) c.loop-made.invariant.number c.in_default.ensures.err.recorded))
 
 pub returns-in-Err-clause-recorded : goal.returns-in-Err-clause-recorded
 returns-in-Err-clause-recorded g c =

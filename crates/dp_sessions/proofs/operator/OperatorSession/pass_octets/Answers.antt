@@ -9,9 +9,7 @@ use Rattle.dp_sessions.proofs.operator.OperatorSession.pass_octets.Goals as goal
 
 pub loop-octet-init : goal.loop-octet-init
 loop-octet-init g c = record {
-  ours = refl;
-  number = refl;
-  address = refl;
+  same = record { table = refl; number = refl; address = refl };
   driven = refl;
   on = ([], refl, on_start c.args.self.now.driven.items c.args.self.now.begun.items c.args.pass.now.view (g.W.Write.contents c.args.writer.now));
   recorded = gains_none (g.G.Gate.recorded c.args.gate.now c.args.pass.now.line) c.args.pass.now.view c.args.pass.now.view refl;
@@ -21,9 +19,11 @@ pub loop-octet-preserved : goal.loop-octet-preserved
 loop-octet-preserved g c =
     let way = c.loop-octet.invariant.on in
     let octet : ℕ = c.in-Some.octet.now in record {
-      ours = c.take.ensures.ours ∙ c.loop-octet.invariant.ours;
-      number = c.take.ensures.number ∙ c.loop-octet.invariant.number;
-      address = c.take.ensures.address ∙ c.loop-octet.invariant.address;
+      same = record {
+        table = c.take.ensures.same.table ∙ c.loop-octet.invariant.same.table;
+        number = c.take.ensures.same.number ∙ c.loop-octet.invariant.same.number;
+        address = c.take.ensures.same.address ∙ c.loop-octet.invariant.same.address;
+      };
       driven = c.take.ensures.driven ∙ c.loop-octet.invariant.driven;
       on = (
         way.0 ++ octet ∷ [],
@@ -33,12 +33,12 @@ loop-octet-preserved g c =
             way.2
             (goes_on_as c.args.self.now.driven.items c.loop-octet.self.driven.items (octet ∷ []) c.loop-octet.self.begun.items c.take.new.self.begun.items
             c.loop-octet.pass.view c.take.new.pass.view (g.W.Write.contents c.loop-octet.writer) (g.W.Write.contents c.take.new.writer)
-            (ap (λ (d : ArrayVec DrivenSlave). d.items) c.loop-octet.invariant.driven) c.in_ok-take.ensures.ok),
+            (ap (λ (d : ArrayVec DrivenSlave). d.items) c.loop-octet.invariant.driven) c.in_ok-take.ensures.ok.served),
       );
       recorded =
           gains_then (g.G.Gate.recorded c.args.gate.now c.args.pass.now.line) c.args.pass.now.view.receipts c.loop-octet.pass.view.receipts c.take.new.pass.view.receipts c.loop-octet.invariant.recorded
           (gains_as (g.G.Gate.recorded c.args.gate.now) c.args.pass.now.line c.loop-octet.pass.line c.loop-octet.pass.view.receipts c.take.new.pass.view.receipts
-          c.loop-octet.invariant.number c.in_ok-take.ensures.recorded);
+          c.loop-octet.invariant.same.number c.in_ok-take.ensures.ok.recorded);
     }
 
 pub returns-in_err-take-clause-err : goal.returns-in_err-take-clause-err
@@ -46,29 +46,27 @@ returns-in_err-take-clause-err g c =
     let way = c.loop-octet.invariant.on in
     let octet : ℕ = c.in-Some.octet.now in
     on_err c.from_residual.result
-    (breaks_at c.args.self.now.driven.items c.args.octets.now way.0 c.loop-octet.left.now octet c.in-Some.rest.now c.args.self.now.begun.items c.loop-octet.self.begun.items
-    c.args.pass.now.view c.loop-octet.pass.view c.take.new.pass.view (g.W.Write.contents c.args.writer.now) (g.W.Write.contents c.loop-octet.writer) (g.W.Write.contents c.take.new.writer)
-    way.1 c.in-Some.ensures.cases.0 way.2
-    (breaks_off_as c.args.self.now.driven.items c.loop-octet.self.driven.items (octet ∷ []) c.loop-octet.self.begun.items
-    c.loop-octet.pass.view c.take.new.pass.view (g.W.Write.contents c.loop-octet.writer) (g.W.Write.contents c.take.new.writer)
-    (ap (λ (d : ArrayVec DrivenSlave). d.items) c.loop-octet.invariant.driven) c.in_err-take.ensures.err))
+    (record {
+      broken = breaks_at c.args.self.now.driven.items c.args.octets.now way.0 c.loop-octet.left.now octet c.in-Some.rest.now c.args.self.now.begun.items c.loop-octet.self.begun.items
+          c.args.pass.now.view c.loop-octet.pass.view c.take.new.pass.view (g.W.Write.contents c.args.writer.now) (g.W.Write.contents c.loop-octet.writer) (g.W.Write.contents c.take.new.writer)
+          way.1 c.in-Some.ensures.cases.0 way.2
+          (breaks_off_as c.args.self.now.driven.items c.loop-octet.self.driven.items (octet ∷ []) c.loop-octet.self.begun.items
+          c.loop-octet.pass.view c.take.new.pass.view (g.W.Write.contents c.loop-octet.writer) (g.W.Write.contents c.take.new.writer)
+          (ap (λ (d : ArrayVec DrivenSlave). d.items) c.loop-octet.invariant.driven) c.in_err-take.ensures.err.broken);
+      recorded = stops_at c.args.self.now.driven.items (g.G.Gate.recorded c.args.gate.now c.args.pass.now.line) c.args.octets.now way.0 c.loop-octet.left.now octet c.in-Some.rest.now
+          c.args.self.now.begun.items c.loop-octet.self.begun.items c.args.pass.now.view c.loop-octet.pass.view c.take.new.pass.view
+          (g.W.Write.contents c.args.writer.now) (g.W.Write.contents c.loop-octet.writer) (g.W.Write.contents c.take.new.writer)
+          way.1 c.in-Some.ensures.cases.0 way.2 c.loop-octet.invariant.recorded
+          (stops_off_as c.args.self.now.driven.items c.loop-octet.self.driven.items (g.G.Gate.recorded c.args.gate.now) c.args.pass.now.line c.loop-octet.pass.line (octet ∷ []) c.loop-octet.self.begun.items
+          c.loop-octet.pass.view c.take.new.pass.view (g.W.Write.contents c.loop-octet.writer) (g.W.Write.contents c.take.new.writer)
+          (ap (λ (d : ArrayVec DrivenSlave). d.items) c.loop-octet.invariant.driven) c.loop-octet.invariant.same.number c.in_err-take.ensures.err.recorded);
+    })
 
 pub returns-clause-ok : goal.returns-clause-ok
 returns-clause-ok g c =
-    let way = c.loop-octet.invariant.on in
-    goes_to c.args.self.now.driven.items c.args.octets.now way.0 c.loop-octet.left.now c.args.self.now.begun.items c.loop-octet.self.begun.items
-    c.args.pass.now.view c.loop-octet.pass.view (g.W.Write.contents c.args.writer.now) (g.W.Write.contents c.loop-octet.writer)
-    way.1 c.in_default.ensures.cases way.2
-
-pub returns-in_err-take-clause-stopped : goal.returns-in_err-take-clause-stopped
-returns-in_err-take-clause-stopped g c =
-    let way = c.loop-octet.invariant.on in
-    let octet : ℕ = c.in-Some.octet.now in
-    on_err c.from_residual.result
-    (stops_at c.args.self.now.driven.items (g.G.Gate.recorded c.args.gate.now c.args.pass.now.line) c.args.octets.now way.0 c.loop-octet.left.now octet c.in-Some.rest.now
-    c.args.self.now.begun.items c.loop-octet.self.begun.items c.args.pass.now.view c.loop-octet.pass.view c.take.new.pass.view
-    (g.W.Write.contents c.args.writer.now) (g.W.Write.contents c.loop-octet.writer) (g.W.Write.contents c.take.new.writer)
-    way.1 c.in-Some.ensures.cases.0 way.2 c.loop-octet.invariant.recorded
-    (stops_off_as c.args.self.now.driven.items c.loop-octet.self.driven.items (g.G.Gate.recorded c.args.gate.now) c.args.pass.now.line c.loop-octet.pass.line (octet ∷ []) c.loop-octet.self.begun.items
-    c.loop-octet.pass.view c.take.new.pass.view (g.W.Write.contents c.loop-octet.writer) (g.W.Write.contents c.take.new.writer)
-    (ap (λ (d : ArrayVec DrivenSlave). d.items) c.loop-octet.invariant.driven) c.loop-octet.invariant.number c.in_err-take.ensures.stopped))
+    let way = c.loop-octet.invariant.on in record {
+      served = goes_to c.args.self.now.driven.items c.args.octets.now way.0 c.loop-octet.left.now c.args.self.now.begun.items c.loop-octet.self.begun.items
+          c.args.pass.now.view c.loop-octet.pass.view (g.W.Write.contents c.args.writer.now) (g.W.Write.contents c.loop-octet.writer)
+          way.1 c.in_default.ensures.cases way.2;
+      recorded = c.loop-octet.invariant.recorded;
+    }

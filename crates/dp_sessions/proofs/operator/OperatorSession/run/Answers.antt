@@ -34,9 +34,9 @@ pub loop-made-preserved : goal.loop-made-preserved
 loop-made-preserved g c =
     let octets : List ℕ = take c.in-Ok.count c.read.new.buf in
     let some : 0 < length octets = omega (arith, length-take c.in-Ok.count c.read.new.buf, c.in-Ok.ensures.bound, c.in-Ok.count-test) in record {
-      ours = c.pass_octets.ensures.ours ∙ c.loop-made.invariant.ours;
-      number = c.pass_octets.ensures.number ∙ c.loop-made.invariant.number;
-      address = c.pass_octets.ensures.address ∙ c.loop-made.invariant.address;
+      ours = c.pass_octets.ensures.same.table ∙ c.loop-made.invariant.ours;
+      number = c.pass_octets.ensures.same.number ∙ c.loop-made.invariant.number;
+      address = c.pass_octets.ensures.same.address ∙ c.loop-made.invariant.address;
       driven = c.pass_octets.ensures.driven ∙ c.loop-made.invariant.driven;
       within = omega arith;
       counted = omega (arith, c.read.ensures.counted, c.loop-made.invariant.counted);
@@ -48,11 +48,11 @@ loop-made-preserved g c =
           refl c.loop-made.invariant.way c.in-Ok.ensures.bytes.0 some
           (goes_on_as c.args.self.now.driven.items c.loop-made.self.driven.items octets c.loop-made.self.begun.items c.pass_octets.new.self.begun.items
           c.loop-made.pass.view c.pass_octets.new.pass.view (g.W.Write.contents c.loop-made.writer) (g.W.Write.contents c.pass_octets.new.writer)
-          (ap (λ (d : ArrayVec DrivenSlave). d.items) c.loop-made.invariant.driven) c.in-Ok-pass_octets.ensures.ok);
+          (ap (λ (d : ArrayVec DrivenSlave). d.items) c.loop-made.invariant.driven) c.in-Ok-pass_octets.ensures.ok.served);
       recorded =
           gains_then (g.G.Gate.recorded c.args.gate.now c.args.pass.now.line) c.args.pass.now.view.receipts c.loop-made.pass.view.receipts c.pass_octets.new.pass.view.receipts c.loop-made.invariant.recorded
           (gains_as (g.G.Gate.recorded c.args.gate.now) c.args.pass.now.line c.loop-made.pass.line c.loop-made.pass.view.receipts c.pass_octets.new.pass.view.receipts
-          c.loop-made.invariant.number c.in-Ok-pass_octets.ensures.recorded);
+          c.loop-made.invariant.number c.in-Ok-pass_octets.ensures.ok.recorded);
     }
 
 pub returns-in_default-clause-operated : goal.returns-in_default-clause-operated
@@ -67,7 +67,7 @@ returns-in_default-clause-operated g c =
     c.loop-made.invariant.way c.in-Ok.ensures.bytes.0
     (breaks_off_as c.args.self.now.driven.items c.loop-made.self.driven.items octets c.loop-made.self.begun.items
     c.loop-made.pass.view c.pass_octets.new.pass.view (g.W.Write.contents c.loop-made.writer) (g.W.Write.contents c.pass_octets.new.writer)
-    (ap (λ (d : ArrayVec DrivenSlave). d.items) c.loop-made.invariant.driven) c.in_default.ensures.err))
+    (ap (λ (d : ArrayVec DrivenSlave). d.items) c.loop-made.invariant.driven) c.in_default.ensures.err.broken))
 
 pub returns-in-Err-clause-operated : goal.returns-in-Err-clause-operated
 returns-in-Err-clause-operated g c =
@@ -103,7 +103,7 @@ returns-in_default-clause-recorded g c =
     c.loop-made.invariant.way c.loop-made.invariant.recorded c.in-Ok.ensures.bytes.0
     (stops_off_as c.args.self.now.driven.items c.loop-made.self.driven.items (g.G.Gate.recorded c.args.gate.now) c.args.pass.now.line c.loop-made.pass.line octets c.loop-made.self.begun.items
     c.loop-made.pass.view c.pass_octets.new.pass.view (g.W.Write.contents c.loop-made.writer) (g.W.Write.contents c.pass_octets.new.writer)
-    (ap (λ (d : ArrayVec DrivenSlave). d.items) c.loop-made.invariant.driven) c.loop-made.invariant.number c.in_default.ensures.stopped)
+    (ap (λ (d : ArrayVec DrivenSlave). d.items) c.loop-made.invariant.driven) c.loop-made.invariant.number c.in_default.ensures.err.recorded)
 
 pub returns-in-Err-clause-recorded : goal.returns-in-Err-clause-recorded
 returns-in-Err-clause-recorded g c =
