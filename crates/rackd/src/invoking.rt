@@ -1,9 +1,8 @@
 //! Carries out what the words of the command line name.
 
-use crate::answers::answer_words;
 use crate::watching::watch_folder;
 use client_host::{operate_line, run_cable};
-use command_host::{Terminals, run_command, run_input};
+use command_host::{Terminals, answer_words, run_command, run_input};
 use rackd_cli::Invocation;
 use rackd_faults::ended;
 use serve_options::ServeOptions;

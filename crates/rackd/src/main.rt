@@ -10,7 +10,6 @@
 //! answered on standard output.
 #![tactic(auto)]
 
-mod answers;
 mod invoking;
 mod serving;
 mod watching;

@@ -10,7 +10,7 @@ use std::process::ExitCode;
 use std::rt::Runtime;
 
 /// Prints what `clap` answers to words.
-pub(crate) fn answer_words<'a>(
+pub fn answer_words<'a>(
     rt: &(impl Runtime + AllocGlobal),
     words: &[String],
     answer: clap::Error,
