@@ -6,11 +6,9 @@ ghost use Rattle.dp_sessions.specs.declared.jobs.ServedSessions.{ServedSessions 
 
 use crate::session::Session;
 use crate::session_end::SessionEnd;
-use crossbeam_channel::Receiver;
 use dp_shared::{ReturnedPass, WorkerSeat};
 use std::alloc::{AllocError, Global};
 use std::snapshot::Snapshot;
-use std::sync::Wait;
 
 /// A session to serve (own).
 #[derive(Drop)]
@@ -156,8 +154,8 @@ pub fn count_served<R, W>(workers: &[ServedSessions<R, W>]) -> u32
 }
 
 /// A job that a worker took. It has no `Drop`, so that a worker has to serve it or say that its port does not exist.
-pub(crate) struct TakenJob<R, W> {
-    pub(crate) job: Job<R, W>,
+pub(crate) struct TakenJob<J> {
+    pub(crate) job: J,
 }
 
 /// A job that was served. It has no `Drop`, so that a worker has to count it.
@@ -168,13 +166,25 @@ pub(crate) struct ServedJob<R, W> {
     pub(crate) left: Snapshot<Job<R, W>>,
 }
 
-/// Waits for the next job and takes it. Returns None once every sender is gone.
-pub(crate) fn take_job<H: Wait, R: Drop, W: Drop>(
-    rt: &H,
-    jobs: &Receiver<Job<R, W>>,
-) -> Option<TakenJob<R, W>> {
-    match jobs.recv(rt) {
-        Ok(job) => Some(TakenJob { job }),
-        Err(_) => None,
+/// The jobs that a worker takes from a queue, in the order in which they come. A worker gets nothing else of the queue.
+///
+/// What a job is, is not known here. So no job that comes out of the queue can be dropped, and each is passed on.
+#[derive(Drop)]
+pub(crate) struct TakenJobs<Q> {
+    pub(crate) jobs: Q,
+}
+
+impl<Q: Iterator> Iterator for TakenJobs<Q> {
+    type Item = TakenJob<Q::Item>;
+
+    ghost can_next = { λ taken. Q.can_next taken.jobs };
+
+    ghost remaining = { λ taken. Q.remaining taken.jobs };
+
+    fn next(&mut self) -> Option<TakenJob<Q::Item>> {
+        match self.jobs.next() {
+            Some(job) => Some(TakenJob { job }),
+            None => None,
+        }
     }
 }

@@ -1,6 +1,7 @@
 //! A pool of workers that serve sessions at the ports of a rack.
 
 ghost use Rattle.std.specs.Prelude.{◌≡◌, ◌≤◌, ◌+◌, true, All, IfErr, IfNone, IfOk, IfSome, is_some, length, nat_lt, vec_capacity, vec_len};
+ghost use Rattle.std.specs.Iterator.{IsFinite};
 ghost use Rattle.std.specs.List.{AllZip};
 ghost use Rattle.dp_shared.specs.Passes.{line_of, table_of};
 ghost use Rattle.dp_sessions.specs.Ended.{end_of};
@@ -10,7 +11,7 @@ ghost use Rattle.dp_sessions.specs.Pools.{HasSeats};
 ghost use Rattle.dp_sessions.specs.ServedJobs.{IsPortSession};
 
 use crate::gate::Gate;
-use crate::jobs::{Job, Keep, ServedJob, ServedSessions, TakenJob, Workers, take_job};
+use crate::jobs::{Job, Keep, ServedJob, ServedSessions, TakenJob, TakenJobs, Workers};
 use crate::pool_fault::PoolFault;
 use crate::port::Port;
 use crate::reads::{Reads, Uncounted};
@@ -218,41 +219,53 @@ fn start_worker<
             (λ port taken left. P.serves port (G.recorded gate.entry.now) turns
             (record { left = R.remaining taken.reader; left_after = R.remaining left.reader; written = W.contents taken.writer; written_after = W.contents left.writer }))
             ports.entry.now room (S.sessions result) }
-    { work(rt, ports, own, room, sessions, jobs, gate, turns) };
+    {
+        let taken = TakenJobs {
+            jobs: jobs.iter(rt),
+        };
+        work(rt, ports, own, room, sessions, taken, gate, turns)
+    };
     match scope.spawn_with(serving, worker) {
         Ok(handle) => Some(handle),
         Err(_) => None,
     }
 }
 
-/// Serves jobs until every sender is gone, and returns what it served.
-fn work<P: ServeAt, S: Keep<R, W>, H: Wait, R: Read + Drop, W: Write + Drop, G: Gate>(
+/// Serves these jobs, and returns what it served. A job that it takes has no `Drop`, and it cannot reach their queue.
+fn work<
+    P: ServeAt,
+    S: Keep<R, W>,
+    H: Wait,
+    R: Read + Drop,
+    W: Write + Drop,
+    Q: Iterator<Item = TakenJob<Job<R, W>>>,
+    G: Gate,
+>(
     rt: &H,
     ports: &[P],
     mut seats: Vec<WorkerSeat>,
     room: usize,
     mut sessions: S,
-    jobs: &Receiver<Job<R, W>>,
+    jobs: Q,
     gate: &G,
     turns: u32,
 ) -> S
     requires seats { AllZip P.ours ports.now seats.items }
     requires sessions { HasRoom room (S.sessions sessions) }
+    requires ready { Q.can_next jobs }
+    requires end { IsFinite (Q.remaining jobs) }
     ensures { AreServed
         (λ port taken left. P.serves port (G.recorded gate.now) turns
         (record { left = R.remaining taken.reader; left_after = R.remaining left.reader; written = W.contents taken.writer; written_after = W.contents left.writer }))
         ports.now room (S.sessions result) }
 {
-    for _ in rt.forever() {
-        let Some(job) = take_job(rt, jobs) else {
-            return sessions;
-        };
+    for job in jobs {
         let served = serve_job::<P, H, R, Uncounted, W, G>(rt, ports, &mut seats, job, gate, turns);
         if let Some(job) = served {
             sessions.keep(room, job);
         }
     }
-    unreachable!()
+    sessions
 }
 
 /// Serves a job at its port, with the worker's seat there. Returns None if there is no such port; the job is then
@@ -261,7 +274,7 @@ fn serve_job<P: ServeAt, H: Wait, R: Read + Drop, C: Reads<R>, W: Write + Drop, 
     rt: &H,
     ports: &[P],
     seats: &mut [WorkerSeat],
-    job: TakenJob<R, W>,
+    job: TakenJob<Job<R, W>>,
     gate: &G,
     turns: u32,
 ) -> Option<ServedJob<R, W>>

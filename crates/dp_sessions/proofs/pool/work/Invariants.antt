@@ -3,9 +3,9 @@ use Rattle.std.specs.List.{AllZip}
 use Rattle.dp_sessions.specs.KeptSessions.{AreServed}
 use Rattle.dp_sessions.proofs.pool.work.Given as goal
 
-abbrev pub invariant-loop : goal.invariant-loop
-invariant-loop g l =
-    (goal.iterator-loop g).can_next l.iterator' × (goal.iterator-loop g).is_finite l.iterator'
+abbrev pub invariant-loop-job : goal.invariant-loop-job
+invariant-loop-job g l =
+    (goal.iterator-loop-job g).can_next l.job-iterator × (goal.iterator-loop-job g).is_finite l.job-iterator
     × AllZip g.P.ServeAt.ours l.ports l.seats.items
     × (vec_capacity (g.S.Keep.sessions l.sessions).kept ≡ l.room)
     × AreServed
