@@ -141,11 +141,13 @@ element_at (x ∷ xs) zero within = (x, refl)
 element_at (x ∷ xs) (suc i) within = element_at xs i (omega (arith, within))
 
 -- what the sessions that are kept wrote, by the journals of the closed lines
-pub in_journals : (turns : ℕ) (places : List MasterPlace) (count : ℕ) (passes : List PassList) (journals : List Content) → ((journal : Content) → Fits journal) → length journals ≡ length places
-    → HasServed turns places count passes → AllPaired AgreeWith journals passes → AreInJournals turns count journals
-in_journals turns places count passes journals law long served agree = record {
+pub in_journals : (turns : ℕ) (places : List MasterPlace) (count : ℕ) (passes : List PassList) (masters : List (List ℕ)) (journals : List Content) → ((journal : Content) → Fits journal)
+    → length journals ≡ length places → map (λ at. at.masters) places ≡ masters → HasServed turns places count passes → AllPaired AgreeWith journals passes
+    → AreInJournals turns count masters journals
+in_journals turns places count passes masters journals law long of_lines served agree = record {
   places = places;
   as_many = sym long;
+  of_lines = of_lines;
   workers = served.workers;
   sessions = served.sessions;
   answered = all_in_journals turns places journals law (kept_of served.workers) (kept_accepted turns places served.workers served.sessions.each) (λ place within.

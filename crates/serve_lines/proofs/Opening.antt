@@ -4,15 +4,15 @@ use Rattle.std.proofs.lemmas.List.{map-append, take_more}
 use Rattle.std.proofs.lemmas.List.Elements.{All-weaker}
 use Rattle.std.proofs.lemmas.Slice.Zip.{all_zipped_more}
 use Rattle.dp_line.specs.declared.description.LineSpec.{LineSpec}
-use Rattle.dp_shared.specs.Passes.{line_of}
 use Rattle.dp_shared.specs.declared.one_slot.OneSlot.{OneSlot}
 use Rattle.dp_shared.specs.Claims.{Claiming, IsNewSeat, Seated}
 use Rattle.dp_sessions.specs.Pools.{HasSeats, IsSeatAt}
 use Rattle.dp_sessions.specs.declared.port.LineAndClaims.{LineAndClaims}
 use Rattle.serve_sockets.specs.declared.line_ports.LinePorts.{LinePorts}
 use Rattle.serve_lines.specs.declared.served_line.ServedLine.{ServedLine}
-use Rattle.serve_lines.specs.ServedLines.{as_opened, line_numbers}
-use Rattle.serve_lines.specs.OpenedLines.{AreOpened, IsOneMore}
+use Rattle.serve_lines.specs.MasterSessions.{place_at}
+use Rattle.serve_lines.specs.ServedLines.{as_opened, line_numbers, masters_of}
+use Rattle.serve_lines.specs.OpenedLines.{AreOpened, IsOneMore, IsPortOf}
 use Rattle.serve_lines.specs.AuditTexts.{line_at}
 use Rattle.serve_lines.specs.ServedLines.{specs_of}
 
@@ -33,17 +33,35 @@ one_more_seat before after fresh own seat new has here =
     subst (λ ports. HasSeats ports (own ++ seat ∷ [])) (sym new.more) (all_zipped_more (λ port s. IsSeatAt port.claims s) before own new.port seat has here)
 
 -- one more line is opened
-pub opened_more : {S V P C : Type 0} (lines longer : List ServedLine) (line : ServedLine) (before after : List (LineAndClaims (OneSlot S V LineSpec P) C))
+pub opened_more : {S V P : Type 0} (lines longer : List ServedLine) (line : ServedLine) (before after : List (LineAndClaims (OneSlot S V LineSpec P) Claiming))
     → longer ≡ lines ++ line ∷ [] → AreOpened lines before → IsOneMore line.spec before after → AreOpened longer after
 opened_more lines longer line before after more so_far (port, grown, here) =
-    rw (more, grown) (all_zipped_more (λ l p. line_of p.line ≡ l.spec) lines before line port so_far here)
+    rw (more, grown) (all_zipped_more (λ l p. IsPortOf l.spec p) lines before line port so_far here)
 
 -- the lines at the ports are those that were opened
-pub opened_specs : {S V P C : Type 0} (lines : List ServedLine) (ports : List (LineAndClaims (OneSlot S V LineSpec P) C)) → AreOpened lines ports → map line_at ports ≡ specs_of lines
+pub opened_specs : {S V P : Type 0} (lines : List ServedLine) (ports : List (LineAndClaims (OneSlot S V LineSpec P) Claiming)) → AreOpened lines ports → map line_at ports ≡ specs_of lines
 opened_specs [] [] opened = refl
 opened_specs [] (port ∷ ports) opened = absurd opened
 opened_specs (line ∷ lines) [] opened = absurd opened
-opened_specs (line ∷ lines) (port ∷ ports) opened = rw (opened.0, opened_specs lines ports opened.1)
+opened_specs (line ∷ lines) (port ∷ ports) opened = rw (opened.0.0, opened_specs lines ports opened.1)
+
+-- the masters at the ports are those of the lines
+pub masters_at : {S V P : Type 0} (lines : List ServedLine) (ports : List (LineAndClaims (OneSlot S V LineSpec P) Claiming)) → AreOpened lines ports
+    → map (λ at. at.masters) (map place_at ports) ≡ masters_of lines
+masters_at [] [] opened = refl
+masters_at [] (port ∷ ports) opened = absurd opened
+masters_at (line ∷ lines) [] opened = absurd opened
+masters_at (line ∷ lines) (port ∷ ports) opened = rw (opened.0.1, masters_at lines ports opened.1)
+
+-- a line has the masters of its description, however it is opened
+pub opened_masters : (endless : Bool) (lines : List ServedLine) → masters_of (map (as_opened endless) lines) ≡ masters_of lines
+opened_masters endless [] = refl
+opened_masters true (line ∷ lines) = ap (λ ms. line.spec.masters.items ∷ ms) (opened_masters true lines)
+opened_masters false (line ∷ lines) = ap (λ ms. line.spec.masters.items ∷ ms) (opened_masters false lines)
+
+pub one_opened : (endless : Bool) (line : ServedLine) → (as_opened endless line).spec.masters ≡ line.spec.masters
+one_opened true line = refl
+one_opened false line = refl
 
 -- a line's number and ports are not changed by its opening
 pub opened_numbers : (endless : Bool) (lines : List ServedLine) → line_numbers (map (as_opened endless) lines) ≡ line_numbers lines

@@ -85,10 +85,10 @@ pub record HasServed (turns : ℕ) (places : List MasterPlace) (count : ℕ) (pa
   pub as_many : length passes ≡ length places
   pub sorted : (place : ℕ) (list : PassList) → slice_get passes place ≡ Some list → list.items ≡ passes_at (λ session. session.place) (λ session. session.pass) place (kept_of workers)
 
--- the workers of a rack of this number of lines served this number of sessions
-pub record AreServedAt (turns count lines : ℕ) : Type 0 where
+-- the workers of a rack served this number of sessions, at one place for each line; these are the masters of its lines
+pub record AreServedAt (turns count : ℕ) (masters : List (List ℕ)) : Type 0 where
   pub places : List MasterPlace
-  pub as_many : length places ≡ lines
+  pub of_lines : map (λ at. at.masters) places ≡ masters
   pub workers : List (List MasterSession)
   pub sessions : AreSessions turns places count workers
 
@@ -100,10 +100,12 @@ pub record IsInJournal (turns : ℕ) (journals : List Content) (session : Accept
   pub here : slice_get journals session.place ≡ Some journal
   pub answered : HasAnsweredMaster turns session.streams session.pass.view.saw_halt (under session.pass.view.number journal.numbers journal.book.entries) session.end
 
--- the workers of a rack served this number of sessions, and the journals of the closed lines show what those that they keep wrote
-pub record AreInJournals (turns count : ℕ) (journals : List Content) : Type 0 where
+-- the workers of a rack served this number of sessions, at one place for each line; these are the masters of its lines. The journals of the closed
+-- lines show what the sessions wrote that the workers keep
+pub record AreInJournals (turns count : ℕ) (masters : List (List ℕ)) (journals : List Content) : Type 0 where
   pub places : List MasterPlace
   pub as_many : length places ≡ length journals
+  pub of_lines : map (λ at. at.masters) places ≡ masters
   pub workers : List (List MasterSession)
   pub sessions : AreSessions turns places count workers
   pub answered : All (IsInJournal turns journals) (kept_of workers)

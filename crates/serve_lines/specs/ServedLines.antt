@@ -38,6 +38,10 @@ line_numbers lines = map number_of lines
 abbrev pub specs_of : List ServedLine → List LineSpec
 specs_of lines = map (λ line. line.spec) lines
 
+-- the masters of each line
+abbrev pub masters_of : List ServedLine → List (List ℕ)
+masters_of lines = map (λ line. line.spec.masters.items) lines
+
 -- these lines, in ascending order of their numbers
 pub record AreInOrder (lines served : List ServedLine) : Type 0 where
   pub same : IsPermutation lines served

@@ -9,7 +9,6 @@ use Rattle.dp_line.specs.declared.description.LineSpec.{LineSpec}
 use Rattle.dp_sessions.specs.declared.port.LineAndClaims.{LineAndClaims}
 use Rattle.dp_shared.specs.Claims.{Claiming}
 use Rattle.dp_shared.specs.Content.{Content}
-use Rattle.dp_shared.specs.Passes.{line_of}
 use Rattle.dp_shared.specs.declared.one_slot.OneSlot.{OneSlot}
 use Rattle.audit_files.specs.AuditPaths.{IsFolderOrFileIn}
 use Rattle.audit_files.specs.FileFaults.{IsRecordingFault, cause_of_break}
@@ -23,9 +22,9 @@ use Rattle.serve_faults.specs.declared.serve_fault.ServeFault.TheVariants as fau
 use Rattle.serve_lines.specs.declared.served_line.ServedLine.{ServedLine}
 use Rattle.dp_text.specs.Writes.{WritesPrefix}
 use Rattle.serve_rack.specs.declared.serve.Served.{Served}
-use Rattle.serve_lines.specs.ServedLines.{as_opened, line_numbers, number_of, specs_of}
+use Rattle.serve_lines.specs.ServedLines.{as_opened, line_numbers, masters_of, specs_of}
 use Rattle.serve_lines.specs.MasterSessions.{AreServedAt, MasterPlace, place_at}
-use Rattle.serve_lines.specs.OpenedLines.{AreOpened}
+use Rattle.serve_lines.specs.OpenedLines.{AreOpened, IsPortOf}
 use Rattle.serve_lines.specs.ReturnedPasses.{AllPaired, AreOfPort, PassList}
 use Rattle.audit_trail.specs.declared.fault.TrailBreak.{TrailBreak}
 use Rattle.audit_trail.specs.declared.fault.TrailBreak.TheVariants as breaks
@@ -35,7 +34,7 @@ use Rattle.serve_rack.specs.Serving.{HasLeft, most_reads}
 use Rattle.serve_rack.specs.ServeOutput.{AreServed, AreServedInPart, AreServedTo, IsCauseOfBreak, IsIncomplete, ServesConnections, ServesLines}
 use Rattle.serve_sessions.specs.Ready.{ready}
 use Rattle.serve_lines.proofs.AnsweredMasters.{Fits, in_journals, lists_ours, paired_from}
-use Rattle.serve_lines.proofs.Opening.{opened_as_they_are, opened_numbers, opened_specs}
+use Rattle.serve_lines.proofs.Opening.{masters_at, opened_as_they_are, opened_masters, opened_numbers, opened_specs}
 use Rattle.serve_lines.proofs.Writing.{appends_none, keeps_nothing, keeps_same}
 
 -- ---- serving
@@ -90,7 +89,7 @@ left_endless lines ports (Some served) passes a b opened left said = (
   said,
   record {
     places = map place_at ports;
-    as_many = length-map ports place_at ∙ AllZip-long (λ line port. line_of port.line ≡ line.spec) lines ports opened;
+    of_lines = masters_at lines ports opened;
     workers = left.workers;
     sessions = left.sessions;
   },
@@ -104,7 +103,7 @@ left_ours ports (Some served) passes left = lists_ours most_reads ports served.m
 left_ours ports None passes left = subst (AllPaired AreOfPort ports) (sym left) (paired_from AreOfPort ports [] (λ i x y here there. absurd cc))
 
 -- the audit texts of closed lines are written after `ready`
-pub closed_whole : {S V P C : Type 0} (lines : List ServedLine) (ports : List (LineAndClaims (OneSlot S V LineSpec P) C)) (passes : List PassList) (a b c : Option (List ℕ))
+pub closed_whole : {S V P : Type 0} (lines : List ServedLine) (ports : List (LineAndClaims (OneSlot S V LineSpec P) Claiming)) (passes : List PassList) (a b c : Option (List ℕ))
     → AreOpened lines ports → Appends a b ready → AreClosed (map line_at ports) passes b c → AreServed false lines a c
 closed_whole lines ports passes a b c opened said closed = (b, said, subst (λ ls. AreWritten ls b c) (opened_specs lines ports opened) closed.texts)
 
@@ -114,14 +113,14 @@ pub closed_to : {S V P : Type 0} (lines : List ServedLine) (ports : List (LineAn
     → IfSome served (λ counts. AreServedTo false lines counts.masters a c)
 closed_to lines ports (Some served) passes a b c law opened left said closed =
     let here = subst (λ ls. AreClosed ls passes b c) (opened_specs lines ports opened) closed in
-    let long = AllZip-long (λ line port. line_of port.line ≡ line.spec) lines ports opened in
+    let long = AllZip-long (λ line port. IsPortOf line.spec port) lines ports opened in
     let all = AllZip-long IsJournalOf (specs_of lines) here.texts.journals here.texts.each in (
       b,
       said,
       (
         here.texts,
-        in_journals most_reads (map place_at ports) served.masters passes here.texts.journals law
-            (omega (arith, long, all, length-map lines (λ (line : ServedLine). line.spec), length-map ports place_at)) left here.agree,
+        in_journals most_reads (map place_at ports) served.masters passes (masters_of lines) here.texts.journals law
+            (omega (arith, long, all, length-map lines (λ (line : ServedLine). line.spec), length-map ports place_at)) (masters_at lines ports opened) left here.agree,
       ),
     )
 closed_to lines ports None passes a b c law opened left said closed = tt
@@ -139,23 +138,22 @@ cause_cuts false None breaks.WriteFault = refl
 cause_cuts false (Some fault) breaks.Overtaken = refl
 cause_cuts false None breaks.Overtaken = refl
 
--- endless lines with the same numbers are served in the same way
+-- endless lines with the same numbers and masters are served in the same way
 same_numbers : (folder : Option (Bor (List ℕ))) (lines others : List ServedLine) (a b : Option (List ℕ)) (result : Result Served ServeFault)
-    → line_numbers others ≡ line_numbers lines → ServesLines folder true others a b result → ServesLines folder true lines a b result
-same_numbers folder lines others a b (Ok served) same (said, at) =
-    (said, subst (AreServedAt most_reads served.masters) (sym (length-map others number_of) ∙ ap length same ∙ length-map lines number_of) at)
-same_numbers folder lines others a b (Err (faults.CannotMake path cause)) same is = subst (λ ns. IsFolderOrFileIn folder ns path × Keeps a b) same is
-same_numbers folder lines others a b (Err (faults.CannotWrite path cause)) same is = subst (λ ns. IsIncomplete folder true ns path cause × Appends a b ready) same is
-same_numbers folder lines others a b (Err (faults.CannotMakePorts cause)) same is = is
-same_numbers folder lines others a b (Err faults.WriteFault) same is = is
-same_numbers folder lines others a b (Err faults.OutOfMemory) same is = is
-same_numbers folder lines others a b (Err (faults.Rack fault)) same never = absurd never
-same_numbers folder lines others a b (Err (faults.CannotListen port cause)) same never = absurd never
+    → line_numbers others ≡ line_numbers lines → masters_of others ≡ masters_of lines → ServesLines folder true others a b result → ServesLines folder true lines a b result
+same_numbers folder lines others a b (Ok served) same masters (said, at) = (said, subst (AreServedAt most_reads served.masters) masters at)
+same_numbers folder lines others a b (Err (faults.CannotMake path cause)) same masters is = subst (λ ns. IsFolderOrFileIn folder ns path × Keeps a b) same is
+same_numbers folder lines others a b (Err (faults.CannotWrite path cause)) same masters is = subst (λ ns. IsIncomplete folder true ns path cause × Appends a b ready) same is
+same_numbers folder lines others a b (Err (faults.CannotMakePorts cause)) same masters is = is
+same_numbers folder lines others a b (Err faults.WriteFault) same masters is = is
+same_numbers folder lines others a b (Err faults.OutOfMemory) same masters is = is
+same_numbers folder lines others a b (Err (faults.Rack fault)) same masters never = absurd never
+same_numbers folder lines others a b (Err (faults.CannotListen port cause)) same masters never = absurd never
 
 -- what is served of lines as they were opened is served of these lines
 pub served_as_opened : (folder : Option (Bor (List ℕ))) (endless : Bool) (lines opened : List ServedLine) (a b : Option (List ℕ)) (result : Result Served ServeFault)
     → opened ≡ map (as_opened endless) lines → ServesLines folder endless opened a b result → ServesLines folder endless lines a b result
 served_as_opened folder true lines opened a b result same is =
-    same_numbers folder lines opened a b result (ap line_numbers same ∙ opened_numbers true lines) is
+    same_numbers folder lines opened a b result (ap line_numbers same ∙ opened_numbers true lines) (ap masters_of same ∙ opened_masters true lines) is
 served_as_opened folder false lines opened a b result same is =
     subst (λ ls. ServesLines folder false ls a b result) (same ∙ opened_as_they_are lines) is

@@ -1,6 +1,6 @@
 -- promise
 -- A rack that is served (own).
-use Rattle.std.specs.Prelude.{◌≡◌, ◌⊎◌, ℕ, ℤ, Bool, true, false, List, length, map, Option, Some, None, Result, Ok, Err, Contains, IsPermutation}
+use Rattle.std.specs.Prelude.{◌≡◌, ◌⊎◌, ℕ, ℤ, Bool, true, false, List, map, Option, Some, None, Result, Ok, Err, Contains, IsPermutation}
 use Rattle.std.specs.Borrow.{Bor}
 use Rattle.std.specs.List.{list_all}
 use Rattle.std.specs.List.Sorted.{IsNonDecreasingBy}
@@ -31,7 +31,7 @@ use Rattle.serve_lines.specs.declared.served_line.ServedLine.{ServedLine}
 use Rattle.serve_lines.specs.AuditTexts.{AreBrokenOff, AreWritten}
 use Rattle.serve_lines.specs.MasterSessions.{AreInJournals, AreServedAt, MasterPlace}
 use Rattle.serve_lines.specs.Listening.{ports_of}
-use Rattle.serve_lines.specs.ServedLines.{line_numbers, number_of, specs_of}
+use Rattle.serve_lines.specs.ServedLines.{line_numbers, masters_of, number_of, specs_of}
 
 -- ---- serving
 
@@ -40,12 +40,12 @@ abbrev pub AreServed : Bool → List ServedLine → Option (List ℕ) → Option
 AreServed true lines old new = Appends old new ready
 AreServed false lines old new = (between : Option (List ℕ)) × Appends old between ready × AreWritten (specs_of lines) between new
 
--- .. and this number of sessions of masters was served at these lines; by the journals of ordinary lines, those that are kept wrote E5 and then the
--- replies of the entries under the numbers of their passes
+-- .. and this number of sessions of masters was served, at one place for each of these lines and as sessions of its masters; by the journals of ordinary
+-- lines, those that are kept wrote E5 and then the replies of the entries under the numbers of their passes
 abbrev pub AreServedTo : Bool → List ServedLine → ℕ → Option (List ℕ) → Option (List ℕ) → Type 0
-AreServedTo true lines masters old new = Appends old new ready × AreServedAt most_reads masters (length lines)
+AreServedTo true lines masters old new = Appends old new ready × AreServedAt most_reads masters (masters_of lines)
 AreServedTo false lines masters old new =
-    (between : Option (List ℕ)) × Appends old between ready × ((texts : AreWritten (specs_of lines) between new) × AreInJournals most_reads masters texts.journals)
+    (between : Option (List ℕ)) × Appends old between ready × ((texts : AreWritten (specs_of lines) between new) × AreInJournals most_reads masters (masters_of lines) texts.journals)
 
 -- a prefix of `ready` is written, or `ready` and a part of the audit texts of these lines
 abbrev pub AreServedInPart : Bool → List ServedLine → Option (List ℕ) → Option (List ℕ) → Type 0

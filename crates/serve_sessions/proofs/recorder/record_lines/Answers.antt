@@ -1,6 +1,6 @@
 use Rattle.std.proofs.Common.{rules, ◌≡◌, ◌++◌, ◌∷◌, [], length, Some, arith}
 use Rattle.std.proofs.lemmas.Slice.Zip.{AllZip-long}
-use Rattle.dp_shared.specs.Passes.{line_of}
+use Rattle.serve_lines.specs.OpenedLines.{IsPortOf}
 use Rattle.serve_lines.specs.ServedLines.{line_numbers}
 use Rattle.serve_sessions.proofs.Recording.{fault_among, number_at, recorded_more}
 use Rattle.serve_sessions.proofs.recorder.record_lines.Goals as goal
@@ -12,7 +12,7 @@ offset_bounds-ports-len g c =
 
 pub bounds-ports-len : goal.bounds-ports-len
 bounds-ports-len g c =
-    let long = AllZip-long (λ line port. line_of port.line ≡ line.spec) c.args.served.lines.now c.args.served.ports.now c.requires.opened in
+    let long = AllZip-long (λ line port. IsPortOf line.spec port) c.args.served.lines.now c.args.served.ports.now c.requires.opened in
     let place : c.len.result ≡ length c.loop-line.all.items = search rules in
     let all = c.loop-line.invariant.0 in let within = c.loop-line-test.true in omega (arith, long, place, all, within)
 

@@ -1,8 +1,9 @@
-use Rattle.std.proofs.Common.{rules, ◌≡◌, ◌∷◌, ◌++◌, [], Some, length, sym, subst, ap, arith}
+use Rattle.std.proofs.Common.{rules, ◌≡◌, ◌∷◌, ◌++◌, [], Some, length, sym, subst, ap, ◌∙◌, arith}
 use Rattle.std.proofs.lemmas.List.{length_push}
 use Rattle.std.proofs.lemmas.List.Elements.{All-head, All-pop, All-push, All-rest, All-same}
+use Rattle.arrayvec.specs.ArrayVec.{ArrayVec}
 use Rattle.dp_sessions.specs.Pools.{HasSeats, IsSeatAt}
-use Rattle.serve_lines.proofs.Opening.{new_seats, one_more_seat}
+use Rattle.serve_lines.proofs.Opening.{new_seats, one_more_seat, one_opened}
 use Rattle.serve_lines.proofs.opened_lines.OpenedLines.with_line.Goals as goal
 
 pub loop-own-init : goal.loop-own-init
@@ -40,4 +41,9 @@ loop-own-preserved c =
     )
 
 pub returns-clause-line : goal.returns-clause-line
-returns-clause-line c = (record { line = c.in_ok-line.line; claims = c.in-Ok.claims }, search rules, search rules)
+returns-clause-line c = (
+  record { line = c.in_ok-line.line; claims = c.in-Ok.claims },
+  search rules,
+  search rules,
+  c.in-Ok.ensures.claims.0 ∙ sym (ap (λ (masters : ArrayVec ℕ). masters.items) (one_opened c.args.is_endless c.args.line)),
+)
