@@ -1,5 +1,5 @@
-//! Carries out the commands of rackd that read files and write to standard output, and reports their faults, and prints what
-//! `clap` answers to words; what a command does with a text is in the crates below.
+//! Carries out the commands of rackd that read files and write to standard output, reports their faults, and prints what `clap`
+//! answers to the words of a command line; what a command does with a text is in the crates below.
 #![tactic(auto)]
 
 mod answers;
