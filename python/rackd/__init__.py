@@ -34,8 +34,9 @@ A rack is the program `rackd serve`, which ends with the `with` statement or wit
 
         port = line.port(2)                             # read, write and so on as pyserial's Serial
 
-        journal = line.journal()                        # a sequence of Entry: place, rule, sentence and so on
-        journal.refused()
+        journal = line.journal()                        # a sequence of Entry: place, event, reason, sentence and so on
+        journal.refused()[0].reason["holder"]           # a fact of the reason, here of its kind NotHolder
+        journal.explained.holds                         # also counts, stations, polls and verdict
         print(journal.explain(faults=True, slave=5))    # also first, last, master, refused, summary
         journal.judge(master=1)                         # what this master did that the standard rules out
         line.why(3).sentence                            # why entry 3 has its outcome; in process also its facts
@@ -49,11 +50,13 @@ refuses. For pytest there are the fixtures rack, rack_factory and rack_toml.
 """
 from .cable import Cable, RunningCable
 from .embedded import EmbeddedLine, EmbeddedRack
+from .explained import (Answer, Change, Condition, Decoded, Entry, Event, Explained, Hold, Part, Poll, Release,
+                        StationCount, Verdict, WayCount, Why)
 from .faults import (UE, RR, RS, BadEnd, BadFrame, BadHead, Halted, Long, NoProgram, NoReply, NoStart, NoStation,
                      NotACommand, NotAccepted, NotLegal, OperatorRefused, RackError, RackFault, Refused, SessionEnded,
                      Short, SlaveRefused, TooLong, TooMany, UnknownPoint, WrongLength)
 from .frames import Frame
-from .journal import Change, Entry, Finding, Journal, Part
+from .journal import Finding, Journal
 from .master import Diagnosis, Master
 from .operator import Operator, Show, State
 from .port import Port
@@ -61,9 +64,11 @@ from .rack import SAMPLE, Line, Rack
 from .reasons import Facts, Reason
 
 __all__ = [
-    "UE", "RR", "RS", "BadEnd", "BadFrame", "BadHead", "Cable", "Change", "Diagnosis", "EmbeddedLine", "EmbeddedRack",
-    "Entry", "Facts", "Finding", "Frame", "Halted", "Journal", "Line", "Long", "Master", "NoProgram", "NoReply",
-    "NoStart", "NoStation", "NotACommand", "NotAccepted", "NotLegal", "Operator", "OperatorRefused", "Part", "Port",
-    "Rack", "RackError", "RackFault", "Reason", "Refused", "RunningCable", "SAMPLE", "SessionEnded", "Short", "Show",
-    "SlaveRefused", "State", "TooLong", "TooMany", "UnknownPoint", "WrongLength",
+    "UE", "RR", "RS", "Answer", "BadEnd", "BadFrame", "BadHead", "Cable", "Change", "Condition", "Decoded",
+    "Diagnosis", "EmbeddedLine", "EmbeddedRack", "Entry", "Event", "Explained", "Facts", "Finding", "Frame", "Halted",
+    "Hold", "Journal", "Line", "Long", "Master", "NoProgram", "NoReply", "NoStart", "NoStation", "NotACommand",
+    "NotAccepted", "NotLegal", "Operator", "OperatorRefused", "Part", "Poll", "Port", "Rack", "RackError",
+    "RackFault", "Reason", "Refused", "Release", "RunningCable", "SAMPLE", "SessionEnded", "Short", "Show",
+    "SlaveRefused", "State", "StationCount", "TooLong", "TooMany", "UnknownPoint", "Verdict", "WayCount", "Why",
+    "WrongLength",
 ]

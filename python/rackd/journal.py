@@ -6,71 +6,12 @@ import json
 import os
 import subprocess
 from dataclasses import dataclass
-from typing import Any, BinaryIO, Dict, Iterator, List, Mapping, Optional, Sequence, Tuple
+from typing import BinaryIO, Iterator, List, Optional, Sequence, Tuple
 
+from .explained import Entry, Explained, explained_of
 from .faults import RackError, RackFault
 from .program import rows_of, run
 from .reasons import Reason
-
-
-@dataclass(frozen=True)
-class Part:
-    """What a Global_Control to all does at one slave."""
-
-    slave: int
-    rule: str
-    sentence: str
-
-
-@dataclass(frozen=True)
-class Change:
-    """A slave whose state or holder an entry changed: both in words, as in `Wait_Cfg, held by master 1`."""
-
-    slave: int
-    before: str
-    after: str
-
-
-@dataclass(frozen=True)
-class Entry:
-    """An entry of a journal, with the keys of `rackd explain --json` (docs/reference/explain.md).
-
-    `time` is the sum of the ticks before it in units of 10 ms; `sender` is `master` or `operator`; `to` is `slave`,
-    `station`, `all slaves`, `line` or `nobody`. `rule` is the rule of docs/reference/policy.md that decided, as `NotHolder`.
-    """
-
-    place: int
-    time: Optional[int]
-    sender: str
-    master: Optional[int]
-    to: str
-    address: Optional[int]
-    kind: str
-    dsap: Optional[int]
-    ssap: Optional[int]
-    octets: Optional[bytes]
-    decoded: Mapping[str, Tuple[str, ...]]
-    rule: Optional[str]
-    refused: bool
-    fault: bool
-    sentence: str
-    slaves: Tuple[Part, ...]
-    reply: Tuple[str, ...]
-    changes: Tuple[Change, ...]
-
-
-def entry_of(keys: Dict[str, Any]) -> Entry:
-    """Returns the entry of a line of `rackd explain --json`."""
-    octets = keys["octets"]
-    return Entry(
-        place=keys["place"], time=keys["time"], sender=keys["from"], master=keys["master"], to=keys["to"],
-        address=keys["address"], kind=keys["kind"], dsap=keys["dsap"], ssap=keys["ssap"],
-        octets=None if octets is None else b"" if octets == "-" else bytes.fromhex(octets),
-        decoded={name: tuple(rows) for name, rows in (keys["decoded"] or {}).items()},
-        rule=keys["rule"], refused=keys["refused"], fault=keys["fault"], sentence=keys["sentence"],
-        slaves=tuple(Part(part["slave"], part["rule"], part["sentence"]) for part in keys["slaves"]),
-        reply=tuple(keys["reply"] or ()),
-        changes=tuple(Change(change["slave"], change["from"], change["to"]) for change in keys["changes"]))
 
 
 @dataclass(frozen=True)
@@ -108,15 +49,18 @@ def findings_of(output: bytes) -> Tuple[List[Finding], str]:
 
 
 class Journal:
-    """The entries that a line had at one moment, as a sequence. `verdict` is `legal` for each journal of a rack."""
+    """The entries that a line had at one moment, as a sequence. `verdict` is `legal` for each journal of a rack.
+
+    `explained` also has the holds and what was counted.
+    """
 
     def __init__(self, program: str, rack: bytes, text: bytes) -> None:
         """Reads the audit text of a line of the rack file. A last row that is not whole is left out."""
         self._program, self._rack = program, rack
         self._text = text[:text.rfind(b"\n") + 1]
-        *entries, verdict = [json.loads(row) for row in self._explained("--json").splitlines()]
-        self.entries: Tuple[Entry, ...] = tuple(entry_of(keys) for keys in entries)
-        self.verdict: str = verdict["verdict"]
+        self.explained: Explained = explained_of(self._explained("--json"))
+        self.entries: Tuple[Entry, ...] = self.explained.entries
+        self.verdict: str = self.explained.verdict.verdict
 
     def __iter__(self) -> Iterator[Entry]:
         return iter(self.entries)

@@ -29,6 +29,8 @@ def is_followed(explained, audit):
 
 
 FOLLOWED_TEXTS = [audit for audit in stored_audits() if is_followed(whole_explanation(audit), audit)]
+# What a line of JSON begins with, before its kind; the lines of a summary are not written while a text is followed.
+FRONT = '{"version":2,"kind":'
 FOLLOWED_LINES = [case for case in stored_cases() if "--json" in case.options and is_followed(case.expected, case.audit)]
 FOLDERS = sorted({audit.parent.name for audit in FOLLOWED_TEXTS})
 
@@ -81,8 +83,10 @@ def test_lines_of_json(follow, folder):
         followed.write(read(cases[name].audit))
     let_read(*several.values())
     for name, followed in several.items():
-        is_legal, lines = verdict_of(cases[name].expected).startswith("legal "), rows_of(cases[name].expected)
-        assert (name, followed.output) == (name, "".join(lines[:-1] if is_legal else lines))
+        is_legal = verdict_of(cases[name].expected).startswith("legal ")
+        kinds = ('"entry"',) if is_legal else ('"entry"', '"verdict"')
+        lines = [line for line in rows_of(cases[name].expected) if line.startswith(tuple(FRONT + kind for kind in kinds))]
+        assert (name, followed.output) == (name, "".join(lines))
         assert (name, followed.has_ended()) == (name, not is_legal)
         if not is_legal:
             assert (name, followed.wait().status) == (name, 1)

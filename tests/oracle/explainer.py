@@ -790,6 +790,22 @@ def command_in_words(octets: bytes) -> str:
 
 
 UNKNOWN_PLACE = 0                  # of a request in an earlier part of a text
+NO_OCTETS = '-'                    # no octets in an audit text
+ENDINGS = {'wrong configuration': 'wrong_configuration', 'wrong parameters': 'wrong_parameters', 'unlocked': 'unlocked',
+           'the line halted': 'halted', 'its watchdog ran out': 'watchdog', 'to the end': 'lasts'}    # words, name in JSON
+Facts = Dict[str, Any]
+
+
+def facts_of(kind: str, **fields: Any) -> Facts:
+    """Returns the facts of an answer: their kind, and the fields of that kind."""
+    return {'kind': kind, **fields}
+
+
+@dataclass
+class Did:
+    """What a slave did by a service: the sentence of its result, and its facts."""
+    words: str
+    facts: Facts
 
 
 @dataclass
@@ -802,8 +818,17 @@ class Noted:
     octets: bytes
 
 
+def mode_act(is_sent: bool, ends: bool, is_asked: bool) -> str:
+    """Returns what a Sync or a Freeze does: beside its end, and by whether the parameters ask for it."""
+    if not is_sent:
+        return 'not_sent'
+    if ends:
+        return 'beside_its_end'
+    return 'acts' if is_asked else 'not_asked_for'
+
+
 class Slave:
-    """A slave and what its services do, as docs/reference/policy.md says. A service returns the sentence of its result."""
+    """A slave and what its services do, as docs/reference/policy.md says. A service returns what it did."""
 
     def __init__(self, spec: SlaveSpec):
         self.spec = spec
@@ -860,6 +885,12 @@ class Slave:
             return STATE_WORDS[self.state]
         return f'{STATE_WORDS[self.state]} since entry {self.released_at} ({self.released_by})'
 
+    def last_release(self) -> Optional[Facts]:
+        """Returns in Wait_Prm which entry ended the last hold, and how, if there was one."""
+        if self.state != WAIT_PRM or self.released_at is None:
+            return None
+        return {'place': self.released_at, 'ending': ENDINGS[self.released_by]}
+
     def access(self, point: Optional[int]) -> str:
         """Returns who may use a point in this state."""
         return ACCESS[point][self.state] if point in ACCESS else OFF
@@ -898,32 +929,40 @@ class Slave:
 
     # ---- Services
 
-    def set_prm(self, sender: int, place: int, octets: bytes) -> str:
+    def set_prm(self, sender: int, place: int, octets: bytes) -> Did:
         faults = parameter_faults(octets, self.spec)
         if faults:
             return self.refuse_parameters(faults, octets)
-        parameters = Parameters(octets)
+        parameters, holder = Parameters(octets), self.holder
         if parameters.unlock:
-            held = self.release('unlocked')
-            beside = f' {LOCK_BESIDE_UNLOCK}' if bit(octets[0], 7) else ''
-            return f'unlocked: slave {self.address} is released.{beside}' if held else \
-                f'unlocked: nobody held slave {self.address}.{beside}'
+            return self.unlock(bit(octets[0], 7))
         if parameters.min_tsdr:
             self.min_tsdr = parameters.min_tsdr
         if parameters.lock:
             return self.lock(sender, place, parameters)
-        if sender == self.holder:
+        if sender == holder:
             self.restart_watchdog()
-        missing = f' {WITHOUT_LOCK}' if self.holder is None else ''
-        return f'done: min TSDR {"is" if parameters.min_tsdr else "stays"} {self.min_tsdr}.{missing}{low_tsdr(parameters)}'
+        missing = f' {WITHOUT_LOCK}' if holder is None else ''
+        verb, kind = ('is', 'MinTsdrSet') if parameters.min_tsdr else ('stays', 'MinTsdrStays')
+        return Did(f'done: min TSDR {verb} {self.min_tsdr}.{missing}{low_tsdr(parameters)}',
+                   facts_of(kind, holder=holder, min_tsdr=self.min_tsdr))
 
-    def refuse_parameters(self, faults: List[str], octets: bytes) -> str:
+    def unlock(self, locks: bool) -> Did:
+        """Does a Set_Prm with Unlock_Req; `locks` is whether it has Lock_Req too."""
+        facts = facts_of('Unlocked', released=self.holder, lock_req=locks)
+        held = self.release('unlocked')
+        beside = f' {LOCK_BESIDE_UNLOCK}' if locks else ''
+        words = f'slave {self.address} is released' if held else f'nobody held slave {self.address}'
+        return Did(f'unlocked: {words}.{beside}', facts)
+
+    def refuse_parameters(self, faults: List[str], octets: bytes) -> Did:
+        facts = facts_of('WrongParameters', released=self.holder)
         held = self.release('wrong parameters')
         self.prm_fault, self.cfg_fault = True, False
         self.not_supported = is_not_supported(octets, self.spec)
-        return f'wrong parameters: {"; ".join(faults)}.{" Released." if held else ""}'
+        return Did(f'wrong parameters: {"; ".join(faults)}.{" Released." if held else ""}', facts)
 
-    def lock(self, sender: int, place: int, parameters: Parameters) -> str:
+    def lock(self, sender: int, place: int, parameters: Parameters) -> Did:
         again = self.holder == sender
         if not again:
             self.since = place
@@ -932,22 +971,26 @@ class Slave:
         self.end_modes()
         self.left = parameters.watchdog if parameters.watchdog_on else None
         self.prm_fault = self.cfg_fault = self.not_supported = False
+        held, low = f'master {sender} holds slave {self.address}', low_tsdr(parameters)
         if again:
-            return f'locked again: master {sender} holds slave {self.address} since entry {self.since}.{low_tsdr(parameters)}'
-        return f'locked: master {sender} holds slave {self.address}.{low_tsdr(parameters)}'
+            return Did(f'locked again: {held} since entry {self.since}.{low}',
+                       facts_of('LockedAgain', since=self.since, min_tsdr=parameters.min_tsdr))
+        return Did(f'locked: {held}.{low}', facts_of('Locked', min_tsdr=parameters.min_tsdr))
 
-    def chk_cfg(self, octets: bytes) -> str:
+    def chk_cfg(self, octets: bytes) -> Did:
         if octets not in self.spec.configurations:
+            facts = facts_of('WrongConfiguration', released=self.holder)
             held = self.release('wrong configuration')
             self.cfg_fault = True
-            return f'wrong configuration: {self.configuration_fault(octets)}.{" Released." if held else ""}'
+            return Did(f'wrong configuration: {self.configuration_fault(octets)}.{" Released." if held else ""}', facts)
         number, before = self.spec.configurations.index(octets), self.shape
         self.state, self.cfg_fault = DATA_EXCH, False
         self.restart_watchdog()
+        facts = facts_of('Configured', number=number, before=before)
         if number == before:
-            return f'good configuration: number {number}.'
+            return Did(f'good configuration: number {number}.', facts)
         self.change_shape(number)
-        return f'good configuration: number {number} in place of {before}.'
+        return Did(f'good configuration: number {number} in place of {before}.', facts)
 
     def change_shape(self, number: int) -> None:
         self.shape = number
@@ -965,7 +1008,7 @@ class Slave:
         has = ' or '.join(spaced_or_none(configuration) for configuration in self.spec.configurations)
         return f'the slave has {has}'
 
-    def data_exchange(self, octets: bytes) -> str:
+    def data_exchange(self, octets: bytes) -> Did:
         stays_cleared = self.cleared and not octets and self.output_length > 0
         self.latest = bytes(self.output_length) if stays_cleared else octets
         if not self.sync_mode:
@@ -973,15 +1016,18 @@ class Slave:
         self.cleared = stays_cleared
         self.restart_watchdog()
         if stays_cleared:
-            return 'done: no data, for zeros; the slave stays cleared.'
-        return 'done: the data wait for Sync.' if self.sync_mode else 'done.'
+            return Did('done: no data, for zeros; the slave stays cleared.', facts_of('NoOutputs'))
+        if self.sync_mode:
+            return Did('done: the data wait for Sync.', facts_of('OutputsWait'))
+        return Did('done.', facts_of('OutputsTaken'))
 
-    def slave_diag(self, sender: int) -> str:
+    def slave_diag(self, sender: int) -> Did:
+        facts = facts_of('Diagnosis', by_holder=sender == self.holder)
         if sender != self.holder:
-            return 'done.'
+            return Did('done.', facts)
         self.unread = False
         self.restart_watchdog()
-        return 'done: read by the holder.'
+        return Did('done: read by the holder.', facts)
 
     def diagnosis(self) -> bytes:
         """Returns the octets of the diagnosis."""
@@ -993,8 +1039,10 @@ class Slave:
         holder = NOBODY if self.holder is None else self.holder
         return bytes([first, second, third, holder, self.spec.ident >> 8, self.spec.ident & 0xFF]) + self.extended
 
-    def global_control(self, octets: bytes) -> str:
+    def global_control(self, octets: bytes) -> Did:
         clear, unfreeze, freeze, unsync, sync = (bit(octets[0], number) for number, _ in COMMAND_BITS)
+        facts = facts_of('Control', clear=clear, unsync=unsync, sync=mode_act(sync, unsync, self.parameters.sync),
+                         unfreeze=unfreeze, freeze=mode_act(freeze, unfreeze, self.parameters.freeze))
         done, remarks = [], []
         if clear:
             self.zero_outputs()
@@ -1011,7 +1059,8 @@ class Slave:
         if freeze:
             remarks.append(self.freeze(unfreeze, done))
         self.restart_watchdog()
-        return ' '.join([f'done: {", ".join(done) or "no change"}.'] + [remark for remark in remarks if remark])
+        words = ' '.join([f'done: {", ".join(done) or "no change"}.'] + [remark for remark in remarks if remark])
+        return Did(words, facts)
 
     def sync(self, unsync: bool, done: List[str]) -> str:
         """Does Sync; returns why it does nothing, or an empty text."""
@@ -1051,32 +1100,42 @@ class Refusal:
     """A rule that refuses a request at a slave, or that does not select the slave, and the reason in a sentence."""
     rule: str
     reason: str
+    facts: Facts
     way: Optional[str] = None      # if it is not the rule
 
 
-def lengths_taken(slave: Slave, point: Optional[int]) -> Tuple[str, Any]:
-    """Returns the octets that a point takes, in words, and a test of a length."""
+def lengths_taken(slave: Slave, point: Optional[int]) -> Tuple[List[int], Optional[int]]:
+    """Returns the numbers of octets that a point takes; or no number, and the most that it takes."""
     if point == DATA_EXCHANGE:
         most = slave.output_length
-        if slave.cleared and most:
-            return f'{most} or none', lambda length: length in (0, most)
-        return str(most) if most else 'none', lambda length: length == most
+        return ([0, most] if slave.cleared and most else [most]), None
     if point == GLOBAL_CONTROL:
-        return str(COMMAND_LENGTH), lambda length: length == COMMAND_LENGTH
+        return [COMMAND_LENGTH], None
     if point in (SET_PRM, CHK_CFG):
-        return f'up to {SERVICE_LIMIT}', lambda length: length <= SERVICE_LIMIT
-    return 'none', lambda length: length == 0
+        return [], SERVICE_LIMIT
+    return [0], None
+
+
+def refuse_by_length(slave: Slave, point: Optional[int], length: int) -> Optional[Refusal]:
+    takes, most = lengths_taken(slave, point)
+    if length in takes or most is not None and length <= most:
+        return None
+    words = f'up to {most}' if takes == [] else f'{takes[1]} or none' if len(takes) > 1 else str(takes[0] or 'none')
+    return Refusal('Length', f'{counted(length, "octet")}, the slave takes {words}.',
+                   facts_of('Length', sent=length, takes=takes, most=most))
 
 
 def refuse_by_access(slave: Slave, sender: int, point: Optional[int]) -> Optional[Refusal]:
     """The rows NotActive, NotHolder and NotListed."""
     access, name = slave.access(point), point_name(point)
     if access == OFF and point not in ACCESS:
-        return Refusal('NotActive', f'Slave {slave.address} has no {name}.')
+        return Refusal('NotActive', f'Slave {slave.address} has no {name}.', facts_of('NoPoint', point=point))
     if access == OFF:
-        return Refusal('NotActive', f'Slave {slave.address} is in {slave.state_in_words()}, where {name} is off.')
+        return Refusal('NotActive', f'Slave {slave.address} is in {slave.state_in_words()}, where {name} is off.',
+                       facts_of('PointOff', point=point, state=STATE_WORDS[slave.state], release=slave.last_release()))
     if access == HOLDER and sender != slave.holder:
-        return Refusal('NotHolder', f'Master {slave.holder} holds slave {slave.address} since entry {slave.since}.')
+        return Refusal('NotHolder', f'Master {slave.holder} holds slave {slave.address} since entry {slave.since}.',
+                       facts_of('NotHolder', holder=slave.holder, since=slave.since))
     return refuse_by_lists(slave, sender, point)
 
 
@@ -1088,7 +1147,8 @@ def refuse_by_lists(slave: Slave, sender: int, point: Optional[int]) -> Optional
         names, which = slave.spec.readers, 'readers'
     if names is None or sender in names:
         return None
-    return Refusal('NotListed', f'Master {sender} is none of its {which} ({listed(names)}).')
+    return Refusal('NotListed', f'Master {sender} is none of its {which} ({listed(names)}).',
+                   facts_of('NotListed', list=which))
 
 
 def refuse_by_selection(slave: Slave, payload: bytes) -> Optional[Refusal]:
@@ -1097,7 +1157,8 @@ def refuse_by_selection(slave: Slave, payload: bytes) -> Optional[Refusal]:
         return None
     member = f'in {groups_in_words(groups)}' if groups else 'in no group'
     return Refusal('NotSelected', f'The command is for {groups_in_words(select)} (Group_Select {select:02x}), '
-                                  f'slave {slave.address} is {member} (Group_Ident {groups:02x}).')
+                                  f'slave {slave.address} is {member} (Group_Ident {groups:02x}).',
+                   facts_of('NotSelected', select=select, group=groups))
 
 
 def refuse(slave: Slave, sender: int, function: int, parts: Parts) -> Optional[Refusal]:
@@ -1108,12 +1169,12 @@ def refuse(slave: Slave, sender: int, function: int, parts: Parts) -> Optional[R
         return refusal
     wanted = 'SDN' if point == GLOBAL_CONTROL else 'SRD'
     if function not in (SDN if wanted == 'SDN' else SRD):
-        return Refusal('NoService', f'{name} takes {wanted} alone.')
+        return Refusal('NoService', f'{name} takes {wanted} alone.', facts_of('NoService', point=point, takes=wanted))
     if point in slave.busy:
-        return Refusal('Busy', f'The operator has marked {name} busy.')
-    words, takes = lengths_taken(slave, point)
-    if not takes(len(parts.payload)):
-        return Refusal('Length', f'{counted(len(parts.payload), "octet")}, the slave takes {words}.')
+        return Refusal('Busy', f'The operator has marked {name} busy.', facts_of('Busy', point=point))
+    refusal = refuse_by_length(slave, point, len(parts.payload))
+    if refusal:
+        return refusal
     return refuse_by_selection(slave, parts.payload) if point == GLOBAL_CONTROL else None
 
 
@@ -1232,17 +1293,18 @@ def reply_data_in_words(point: Optional[int], data: bytes) -> str:
     return f'{"outputs" if point == RD_OUTP else "inputs"} {spaced(data)}'
 
 
-def repeat_in_words(octets: bytes, parts: Parts, noted: Noted) -> Tuple[str, str]:
+def repeat_in_words(octets: bytes, parts: Parts, noted: Noted) -> Tuple[str, Did]:
     """Returns the way and the result of a repeat."""
     if noted.place == UNKNOWN_PLACE:
-        return RETRY, 'repeat: the reply to an earlier request is sent again.'
+        return RETRY, Did('repeat: the reply to an earlier request is sent again.', facts_of('UnknownRepeat'))
     if octets == noted.octets:
-        return RETRY, f'retry of entry {noted.place}: its reply is sent again.'
+        return RETRY, Did(f'retry of entry {noted.place}: its reply is sent again.', facts_of('Retry', of=noted.place))
     if parts.dsap == DATA_EXCHANGE and parts.payload:
         what = f'outputs {spaced(parts.payload)} not taken'
     else:
         what = f'{point_name(parts.dsap)} not done'
-    return OTHER_TELEGRAM, f'repeat: FCB as in entry {noted.place}, but another telegram: {what}.'
+    return OTHER_TELEGRAM, Did(f'repeat: FCB as in entry {noted.place}, but another telegram: {what}.',
+                               facts_of('OtherRepeat', of=noted.place, point=parts.dsap))
 
 
 def reply_in_words(reply: bytes, asked: Optional[int], answered: Optional[int]) -> str:
@@ -1282,6 +1344,12 @@ class Entry:
     octets: Optional[bytes] = None                      # of a request
     ends: bool = False             # an operator's event that releases slaves by a watchdog, or halts the line
     time: Optional[int] = None     # ms, once a tick has come before
+    event: Any = None
+    frame: Any = None              # of a request, if its octets are one
+    reason: Optional[Facts] = None                      # of an answer, unless it is that of several slaves
+    answers: List[Facts] = field(default_factory=list)  # of the slaves of a broadcast
+    changes: List[Facts] = field(default_factory=list)
+    releases: List[Facts] = field(default_factory=list)
 
     def block(self) -> str:
         """Returns the rows of the entry."""
@@ -1303,12 +1371,18 @@ class Entry:
     def is_fault(self) -> bool:
         """Whether `--faults` chooses it."""
         return (self.ends or any(way in FAULTS for way in self.ways) or self.ways == [TO_NO_SLAVE]
-                or any(surprise in text for label, text in self.rows if label == 'result' for surprise in SURPRISES))
+                or self.is_surprising)
 
-    def silent(self, rule: str, reason: str, way: Optional[str] = None) -> None:
+    @property
+    def is_surprising(self) -> bool:
+        """Whether what a slave did surprises."""
+        return any(surprise in text for label, text in self.rows if label == 'result' for surprise in SURPRISES)
+
+    def silent(self, refusal: Refusal) -> None:
         """Answers a request with silence, by a row of the line."""
-        self.outcome, self.ways = f'silence {rule}', [way or rule]
-        self.rows.append(('result', f'silence: {rule}. {reason}'))
+        self.outcome, self.ways = f'silence {refusal.rule}', [refusal.way or refusal.rule]
+        self.rows.append(('result', f'silence: {refusal.rule}. {refusal.reason}'))
+        self.reason = refusal.facts
 
 
 # ---------------------------------------------------------------------------------------------------------------------
@@ -1351,10 +1425,11 @@ class Line:
             return None
         if self.count + 1 == self.capacity and not isinstance(event, Halt):
             return None                               # the halt is recorded instead
-        before = {address: (slave.condition(), slave.holder) for address, slave in self.slaves.items()}
+        before = {address: (slave.condition(), slave.state, slave.holder, slave.parameters)
+                  for address, slave in self.slaves.items()}
         self.count += 1
         entry = self.take_request(event) if isinstance(event, Request) else self.take_operator(event)
-        entry.time = self.time
+        entry.time, entry.event = self.time, event
         if isinstance(event, Tick):
             self.time = self.passed + event.units * MS_PER_UNIT
         self.note_changes(entry, before)
@@ -1370,14 +1445,19 @@ class Line:
             return len(event.octets) == self.slaves[event.address].input_length
         return isinstance(event, Report) or event.point in POINT_NAMES
 
-    def note_changes(self, entry: Entry, before: Dict[int, Tuple[str, Optional[int]]]) -> None:
-        """Adds the rows `change`, and updates the holds."""
+    def note_changes(self, entry: Entry, before: Dict[int, Tuple[Any, ...]]) -> None:
+        """Adds the rows `change`, the changes and the releases, and updates the holds."""
         for address, slave in sorted(self.slaves.items()):
-            condition, holder = before[address]
+            condition, state, holder, parameters = before[address]
             if slave.condition() != condition:
                 entry.rows.append(('change', f'slave {address}: {condition} -> {slave.condition()}'))
+                entry.changes.append({'slave': address, 'before': {'state': STATE_WORDS[state], 'holder': holder},
+                                      'after': {'state': STATE_WORDS[slave.state], 'holder': slave.holder}})
             if slave.holder != holder and holder is not None:
                 self.end_hold(slave)
+                ending = ENDINGS[slave.released_by]
+                entry.releases.append({'slave': address, 'master': holder, 'ending': ending,
+                                       'watchdog': parameters.watchdog if ending == 'watchdog' else None})
             if slave.holder != holder and slave.holder is not None:
                 self.holds.append(Hold(address, slave.holder, self.count, self.passed))
 
@@ -1396,7 +1476,7 @@ class Line:
             return self.take_halt()
         slave = self.slaves[event.address]
         entry = Entry(self.count, 'operator', f'slave {event.address}', operator_kind(event), facts=slave.facts(),
-                      outcome='done', rows=[('result', 'done.')])
+                      outcome='done', rows=[('result', 'done.')], reason=facts_of('OperatorDone'))
         if isinstance(event, Input):
             slave.inputs = event.octets
         elif isinstance(event, Report):
@@ -1418,15 +1498,17 @@ class Line:
         addresses = [address for address, _ in released]
         result = f'released: {", ".join(words for _, words in released)}.' if released else 'no watchdog ran out.'
         return Entry(self.count, 'operator', 'line', kind, outcome=released_in_text(addresses),
-                     rows=[('result', result)], named=addresses, ends=bool(addresses))
+                     rows=[('result', result)], named=addresses, ends=bool(addresses), reason=facts_of('Ticked'))
 
     def take_halt(self) -> Entry:
         self.halted = True
         addresses = [address for address, slave in sorted(self.slaves.items()) if slave.release('the line halted')]
-        halted = 'halted, the journal is full' if self.count == self.capacity else 'halted'
+        is_full = self.count == self.capacity
+        halted = 'halted, the journal is full' if is_full else 'halted'
         result = f'{halted}; released: {listed(addresses)}.' if addresses else f'{halted}; nobody held a slave.'
         return Entry(self.count, 'operator', 'line', 'halt', outcome=released_in_text(addresses),
-                     rows=[('result', result)], named=addresses, ends=True)
+                     rows=[('result', result)], named=addresses, ends=True,
+                     reason=facts_of('LineHalted', is_full=is_full))
 
     # ---- Requests
 
@@ -1439,14 +1521,14 @@ class Line:
                           master=event.master, octets=event.octets)
             if event.octets:
                 entry.rows.append(('octets', spaced(event.octets)))
-            entry.silent('NoFrame', 'The octets are no single frame.')
+            entry.silent(Refusal('NoFrame', 'The octets are no single frame.', facts_of('NoFrame')))
             return entry
         entry = Entry(self.count, sender, frame_target(frame), frame_kind(frame), master=event.master,
                       telegram=frame if isinstance(frame, Telegram) else None, rows=content_row(frame),
-                      octets=event.octets)
+                      octets=event.octets, frame=frame)
         refusal = self.refuse_on_line(event.master, frame)
         if refusal:
-            entry.silent(refusal.rule, refusal.reason, refusal.way)
+            entry.silent(refusal)
         elif frame.destination == GLOBAL_ADDRESS:
             self.spread(entry, event.master, frame)
         else:
@@ -1456,33 +1538,36 @@ class Line:
     def refuse_on_line(self, master: int, frame: Any) -> Optional[Refusal]:
         """The rows of the verdict that concern no slave, from NoMaster to NoStation."""
         if master not in self.spec.masters:
-            return Refusal('NoMaster', f"Master {master} is none of the line's ({listed(self.spec.masters)}).")
+            return line_refusal('NoMaster', f"Master {master} is none of the line's ({listed(self.spec.masters)}).")
         if isinstance(frame, Acknowledgement):
-            return Refusal('NotRequest', 'A response asks for nothing.')
+            return line_refusal('NotRequest', 'A response asks for nothing.')
         if frame.source != master:
-            return Refusal('ForeignSender', f'The frame is from station {frame.source}.')
+            return Refusal('ForeignSender', f'The frame is from station {frame.source}.',
+                           facts_of('ForeignSender', station=frame.source))
         if isinstance(frame, Token):
-            return Refusal('Token', 'A token asks for nothing.')
+            return line_refusal('Token', 'A token asks for nothing.')
         if not frame.is_request:
-            return Refusal('NotRequest', 'A response asks for nothing.')
+            return line_refusal('NotRequest', 'A response asks for nothing.')
         if frame.is_reserved:
-            return Refusal('BadFunction', 'The function is reserved.')
+            return line_refusal('BadFunction', 'The function is reserved.')
         parts = frame.parts()
         if parts is None:
-            return Refusal('BadExtension', 'An extension octet is missing or not plain.')
+            return line_refusal('BadExtension', 'An extension octet is missing or not plain.')
         if frame.destination == GLOBAL_ADDRESS:
             if frame.function in SDN and parts.dsap == GLOBAL_CONTROL:
                 return None
-            return Refusal('BadBroadcast', 'Only a Global_Control goes to all slaves.')
+            return line_refusal('BadBroadcast', 'Only a Global_Control goes to all slaves.')
         return None if frame.destination in self.slaves else self.refuse_address(frame)
 
     def refuse_address(self, frame: Telegram) -> Refusal:
         """The row NoStation."""
         is_poll = frame.function == FDL_STATUS
         reason = 'No such station.' if is_poll else 'No slave has this address.'
+        facts = facts_of('LiveListPoll' if is_poll else 'NoStation')
         if frame.destination in self.spec.masters:
             reason = f'Station {frame.destination} is a master of the line.'
-        return Refusal('NoStation', reason, LIVE_LIST_POLL if is_poll else None)
+            facts = facts_of('MasterStation', station=frame.destination)
+        return Refusal('NoStation', reason, facts, LIVE_LIST_POLL if is_poll else None)
 
     def held_by(self, master: int) -> List[Slave]:
         """Returns the slaves that a master holds, oldest lock first."""
@@ -1497,11 +1582,13 @@ class Line:
             entry.rows.append(('result', f'spread: master {master} holds no slave, so the command reached none.'))
         entry.outcome, answers = 'spread', []
         for slave in slaves:
-            rule, words = control(slave, master, frame, parts)
+            rule, did = control(slave, master, frame, parts)
             entry.outcome += f' {slave.address}:{rule}'
+            entry.answers.append({'slave': slave.address, 'outcome': outcome_of(rule), 'rule': rule, 'reason': did.facts,
+                                  'sentence': did.words})
             entry.ways.append(way_of_control(slave, rule, parts.payload))
             entry.named.append(slave.address)
-            answers.append((f'slave {slave.address}', words))
+            answers.append((f'slave {slave.address}', did.words))
         entry.ways = ways_of_control(entry.ways)
         if slaves:
             fault = first_fault(entry.named, entry.ways)
@@ -1514,18 +1601,21 @@ class Line:
         parts, function = frame.parts(), frame.function
         noted = slave.memory.get(event.master)
         if function == FDL_STATUS:
-            words = f'answered: Status. Slave {slave.address} is there, in {STATE_WORDS[slave.state]}.'
-            reply_with(entry, 'Status', words, short_reply(frame, REPLY_OK), parts.dsap, parts.dsap)
+            state = STATE_WORDS[slave.state]
+            did = Did(f'answered: Status. Slave {slave.address} is there, in {state}.', facts_of('Status', state=state))
+            reply_with(entry, 'Status', did, short_reply(frame, REPLY_OK), parts.dsap, parts.dsap)
         elif function not in SRD + SDN:
-            refused_with(entry, Refusal('NoService', 'No slave has this function.'), frame, parts)
+            facts = facts_of('NoService', point=parts.dsap, takes=None)
+            refused_with(entry, Refusal('NoService', 'No slave has this function.', facts), frame, parts)
         elif function in SRD and frame.fcv and noted is not None and noted.fcb == frame.fcb:
-            way, words = repeat_in_words(event.octets, parts, noted)
-            reply_with(entry, 'Repeat', words, noted.reply, parts.dsap, noted.point, way)
+            way, did = repeat_in_words(event.octets, parts, noted)
+            reply_with(entry, 'Repeat', did, noted.reply, parts.dsap, noted.point, way)
         elif function in SDN:
-            rule, words = control(slave, event.master, frame, parts)
+            rule, did = control(slave, event.master, frame, parts)
             entry.ways = ways_of_control([way_of_control(slave, rule, parts.payload)])
             entry.outcome = 'done' if rule == 'Done' else f'silence {rule}'
-            entry.rows.append(('result', words))
+            entry.rows.append(('result', did.words))
+            entry.reason = did.facts
         else:
             reply = self.answer(entry, event, frame, slave)
             remember(slave, event, frame, reply, self.count)
@@ -1536,9 +1626,9 @@ class Line:
         refusal = refuse(slave, event.master, frame.function, parts)
         if refusal:
             return refused_with(entry, refusal, frame, parts)
-        words, data, due = serve(slave, event.master, self.count, parts)
+        did, data, due = serve(slave, event.master, self.count, parts)
         reply = data_reply(frame, parts, data, due)
-        reply_with(entry, 'Done', words, reply, parts.dsap, parts.dsap, way_of_done(words))
+        reply_with(entry, 'Done', did, reply, parts.dsap, parts.dsap, way_of_done(did.words))
         return reply
 
 
@@ -1557,32 +1647,38 @@ def released_in_text(addresses: List[int]) -> str:
     return 'released' + ''.join(f' {address}' for address in addresses)
 
 
-def reply_with(entry: Entry, rule: str, words: str, reply: bytes, asked: Optional[int],
+def line_refusal(rule: str, reason: str) -> Refusal:
+    """Returns a refusal by a rule of the line whose facts are its name."""
+    return Refusal(rule, reason, facts_of(rule))
+
+
+def reply_with(entry: Entry, rule: str, did: Did, reply: bytes, asked: Optional[int],
                answered: Optional[int], way: Optional[str] = None) -> None:
     """Adds a reply to an entry; `asked` and `answered` are the points as of `reply_in_words`."""
-    entry.outcome, entry.ways = f'reply {reply.hex()} {rule}', [way or rule]
+    entry.outcome, entry.ways, entry.reason = f'reply {reply.hex()} {rule}', [way or rule], did.facts
     judged = JUDGED_AFTERWARDS if way in (WRONG_SET_PRM, WRONG_CHK_CFG) else ''
-    entry.rows += [('result', words), ('reply', reply_in_words(reply, asked, answered) + judged)]
+    entry.rows += [('result', did.words), ('reply', reply_in_words(reply, asked, answered) + judged)]
 
 
 def refused_with(entry: Entry, refusal: Refusal, frame: Telegram, parts: Parts) -> bytes:
     """Adds the reply of a refusal to an entry; returns the reply."""
     reply = short_reply(frame, REFUSAL_CODES[refusal.rule])
-    reply_with(entry, refusal.rule, f'refused: {refusal.rule}. {refusal.reason}', reply, parts.dsap, parts.dsap)
+    did = Did(f'refused: {refusal.rule}. {refusal.reason}', refusal.facts)
+    reply_with(entry, refusal.rule, did, reply, parts.dsap, parts.dsap)
     return reply
 
 
-def control(slave: Slave, sender: int, frame: Telegram, parts: Parts) -> Tuple[str, str]:
-    """Judges an SDN at one slave and does it; returns the rule and the result in words."""
+def control(slave: Slave, sender: int, frame: Telegram, parts: Parts) -> Tuple[str, Did]:
+    """Judges an SDN at one slave and does it; returns the rule and the result."""
     refusal = refuse(slave, sender, frame.function, parts)
     if refusal is None:
         return 'Done', slave.global_control(parts.payload)
     how = 'silence' if refusal.rule == 'NotSelected' else 'refused in silence'
-    return refusal.rule, f'{how}: {refusal.rule}. {refusal.reason}'
+    return refusal.rule, Did(f'{how}: {refusal.rule}. {refusal.reason}', refusal.facts)
 
 
-def serve(slave: Slave, sender: int, place: int, parts: Parts) -> Tuple[str, bytes, bool]:
-    """Does the service of an SRD; returns the result in words, the data of the reply, and whether it is DH."""
+def serve(slave: Slave, sender: int, place: int, parts: Parts) -> Tuple[Did, bytes, bool]:
+    """Does the service of an SRD; returns the result, the data of the reply, and whether it is DH."""
     point, payload = parts.dsap, parts.payload
     if point == DATA_EXCHANGE:
         data, due = slave.shown_inputs, slave.is_diagnosis_due
@@ -1595,7 +1691,7 @@ def serve(slave: Slave, sender: int, place: int, parts: Parts) -> Tuple[str, byt
     if point == CHK_CFG:
         return slave.chk_cfg(payload), b'', False
     data = {RD_INP: slave.shown_inputs, RD_OUTP: slave.outputs, GET_CFG: slave.configuration}[point]
-    return 'done.', data, False
+    return Did('done.', facts_of('Read')), data, False
 
 
 def remember(slave: Slave, event: Request, frame: Telegram, reply: bytes, place: int) -> None:
@@ -1819,20 +1915,31 @@ def statistics_table(title: str, stations: List[str], counts: Counter) -> str:
                                   for station in stations for item in ITEMS if counts[station, item])
 
 
+def polls_of(entries: List[Entry]) -> Counter:
+    """Returns how often each address was polled by FDL status."""
+    return Counter(entry.telegram.destination for entry in entries for way in entry.ways
+                   if way in ('Status', LIVE_LIST_POLL))
+
+
 def live_list_table(line: Line, entries: List[Entry]) -> str:
     """Returns how often each address was polled by FDL status, and what stands there."""
-    polls = Counter(entry.telegram.destination for entry in entries for way in entry.ways
-                    if way in ('Status', LIVE_LIST_POLL))
+    polls = polls_of(entries)
     stations = {**dict.fromkeys(line.slaves, 'slave'), **dict.fromkeys(line.spec.masters, 'master')}
     return 'live list\n' + ''.join(statistics_row(f'address {address}', stations.get(address, 'nothing'), count)
                                    for address, count in sorted(polls.items()))
 
 
-def statistics(line: Line, entries: List[Entry]) -> str:
-    """Returns the tables `slaves`, `masters` and `live list`."""
+def statistics_of(line: Line, entries: List[Entry]) -> Counter:
+    """Returns what is counted of each station."""
     counts: Counter = Counter()
     count_requests(entries, counts)
     count_holds(line, counts)
+    return counts
+
+
+def statistics(line: Line, entries: List[Entry]) -> str:
+    """Returns the tables `slaves`, `masters` and `live list`."""
+    counts = statistics_of(line, entries)
     return (statistics_table('slaves', [f'slave {slave.address}' for slave in line.spec.slaves], counts)
             + statistics_table('masters', [f'master {master}' for master in line.spec.masters], counts)
             + live_list_table(line, entries))
@@ -1863,13 +1970,21 @@ def summary(line: Line, entries: List[Entry]) -> str:
 # Lines of JSON
 # ---------------------------------------------------------------------------------------------------------------------
 
-NO_OCTETS = '-'                    # no octets in an audit text
-FIELD_SEPARATOR = '; '
+VERSION = 2
+RULES_THAT_REFUSE = ('NoService', 'NotActive', 'NotHolder', 'NotListed', 'Busy', 'Length')
+OUTCOMES = {'Done': 'done', 'Status': 'answered', 'Repeat': 'repeat', 'NotSelected': 'not_selected',
+            **dict.fromkeys(RULES_THAT_REFUSE, 'refused')}
+OPERATOR_OUTCOMES = {'OperatorDone': 'done', 'Ticked': 'ticked', 'LineHalted': 'halted'}
 
 
-def line_of_json(value: Dict[str, Any]) -> str:
-    """Returns an object as one line, without spaces between its parts."""
-    return json.dumps(value, separators=(',', ':')) + '\n'
+def outcome_of(rule: str) -> str:
+    """Returns the outcome of a request that was answered by a rule; the rules of the line get no reply."""
+    return OUTCOMES.get(rule, 'no_reply')
+
+
+def line_of_json(kind: str, value: Dict[str, Any]) -> str:
+    """Returns an object of a kind as one line, without spaces between its parts."""
+    return json.dumps({'version': VERSION, 'kind': kind, **value}, separators=(',', ':')) + '\n'
 
 
 def target_in_json(entry: Entry) -> Tuple[str, Optional[int]]:
@@ -1877,21 +1992,7 @@ def target_in_json(entry: Entry) -> Tuple[str, Optional[int]]:
     words = entry.target.split(' ')
     if words[0] in ('slave', 'station'):
         return words[0], int(words[1])
-    return entry.target, None
-
-
-def points_in_json(telegram: Optional[Telegram]) -> Tuple[Optional[int], Optional[int]]:
-    """Returns DSAP and SSAP of a telegram, if it has them and they can be read."""
-    parts = telegram.parts() if telegram else None
-    return (parts.dsap, parts.ssap) if parts else (None, None)
-
-
-def rule_in_json(entry: Entry) -> Optional[str]:
-    """Returns the rule that answered a request, by the outcome in the audit text."""
-    words = entry.outcome.split(' ')
-    if entry.master is None or words[0] == 'spread':
-        return None
-    return 'Done' if words[0] == 'done' else words[-1]
+    return entry.target.replace(' ', '_'), None
 
 
 def text_labelled(entry: Entry, label: str) -> Optional[str]:
@@ -1899,62 +2000,140 @@ def text_labelled(entry: Entry, label: str) -> Optional[str]:
     return next((text for name, text in entry.rows if name == label), None)
 
 
-def decoded_in_json(entry: Entry) -> Optional[Dict[str, List[str]]]:
-    """Returns the row before the result, by its label, in fields; None if the result is the first row."""
+def frame_in_json(frame: Any) -> Facts:
+    """Returns the format of a frame and its addresses."""
+    if frame is None:
+        return {'frame': None, 'da': None, 'sa': None}
+    if isinstance(frame, Acknowledgement):
+        return {'frame': 'SC', 'da': None, 'sa': None}
+    name = 'SD4' if isinstance(frame, Token) else frame.layout
+    return {'frame': name, 'da': frame.destination, 'sa': frame.source}
+
+
+def telegram_in_json(telegram: Optional[Telegram]) -> Facts:
+    """Returns the function, the access points and the data of a telegram."""
+    facts: Facts = dict.fromkeys(('function', 'fcb', 'fcv', 'dsap', 'ssap', 'service', 'data'))
+    if telegram is None:
+        return facts
+    facts['function'] = telegram.function
+    if telegram.is_request:
+        facts['fcb'], facts['fcv'] = bool(telegram.fcb), bool(telegram.fcv)
+    parts = telegram.parts()
+    if parts is not None:
+        names_service = telegram.is_request and telegram.function in WITH_POINT
+        facts.update(dsap=parts.dsap, ssap=parts.ssap, data=parts.payload.hex(),
+                     service=POINT_NAMES.get(parts.dsap) if names_service else None)
+    return facts
+
+
+def decoded_in_json(entry: Entry) -> Optional[Facts]:
+    """Returns the row with the data of a telegram: its label and its words."""
     label, text = entry.rows[0]
-    return None if label == 'result' else {label: text.split(FIELD_SEPARATOR)}
+    return None if entry.telegram is None or label == 'result' else {'as': label, 'words': text}
 
 
-def slaves_in_json(entry: Entry) -> List[Dict[str, Any]]:
-    """Returns the answer of each slave to a request to all slaves."""
-    if entry.telegram is None or not entry.named:
-        return []
-    rules = [pair.partition(':')[2] for pair in entry.outcome.split(' ')[1:]]
-    return [{'slave': address, 'rule': rule, 'sentence': text_labelled(entry, f'slave {address}')}
-            for address, rule in zip(entry.named, rules)]
+def event_in_json(entry: Entry) -> Facts:
+    """Returns an event: the fields of a request, or of what the operator did."""
+    event = entry.event
+    if isinstance(event, Request):
+        return {'kind': 'request', **frame_in_json(entry.frame), **telegram_in_json(entry.telegram),
+                'octets': event.octets.hex(), 'decoded': decoded_in_json(entry), 'words': entry.kind}
+    if isinstance(event, Input):
+        facts = {'kind': 'in', 'octets': event.octets.hex()}
+    elif isinstance(event, Report):
+        facts = {'kind': 'diag', 'ext_diag': event.ext, 'stat_diag': event.stat, 'overflow': event.overflow,
+                 'octets': event.octets.hex()}
+    elif isinstance(event, Mark):
+        facts = {'kind': 'busy', 'point': event.point, 'on': event.on}
+    else:
+        facts = {'kind': 'tick', 'units': event.units} if isinstance(event, Tick) else {'kind': 'halt'}
+    return {**facts, 'words': entry.kind}
 
 
-def changes_in_json(entry: Entry) -> List[Dict[str, Any]]:
-    """Returns each change of a slave."""
-    changes = []
-    for label, text in entry.rows:
-        if label == 'change':
-            slave, _, conditions = text.partition(': ')
-            before, _, after = conditions.partition(' -> ')
-            changes.append({'slave': int(slave.removeprefix('slave ')), 'from': before, 'to': after})
-    return changes
+def answer_in_json(entry: Entry) -> Facts:
+    """Returns the outcome, the rule and the reply, by the outcome in the audit text."""
+    words = entry.outcome.split(' ')
+    if entry.master is None:
+        return {'outcome': OPERATOR_OUTCOMES[entry.reason['kind']], 'rule': None, 'octets': None, 'words': None}
+    if words[0] == 'spread':
+        return {'outcome': 'spread', 'rule': None, 'octets': None, 'words': None}
+    rule = 'Done' if words[0] == 'done' else words[-1]
+    return {'outcome': outcome_of(rule), 'rule': rule, 'octets': words[1] if words[0] == 'reply' else None,
+            'words': text_labelled(entry, 'reply')}
 
 
 def entry_in_json(entry: Entry) -> str:
     """Returns an entry as a line of JSON."""
-    (target, address), (dsap, ssap) = target_in_json(entry), points_in_json(entry.telegram)
-    reply = text_labelled(entry, 'reply')
-    return line_of_json({
+    target, address = target_in_json(entry)
+    return line_of_json('entry', {
         'place': entry.place,
         'time': None if entry.time is None else entry.time // MS_PER_UNIT,
         'from': 'operator' if entry.master is None else 'master',
         'master': entry.master,
         'to': target,
         'address': address,
-        'kind': entry.kind,
-        'dsap': dsap,
-        'ssap': ssap,
-        'octets': None if entry.octets is None else entry.octets.hex() or NO_OCTETS,
-        'decoded': decoded_in_json(entry),
-        'rule': rule_in_json(entry),
+        'event': event_in_json(entry),
+        'answer': answer_in_json(entry),
         'refused': entry.is_refused,
         'fault': entry.is_fault,
+        'surprising': entry.is_surprising,
+        'reason': entry.reason,
         'sentence': text_labelled(entry, 'result'),
-        'slaves': slaves_in_json(entry),
-        'reply': None if reply is None else reply.split(FIELD_SEPARATOR),
-        'changes': changes_in_json(entry),
+        'slaves': entry.answers,
+        'changes': entry.changes,
+        'releases': entry.releases,
     })
+
+
+def holds_in_json(line: Line) -> str:
+    """Returns a line for each hold."""
+    return ''.join(line_of_json('hold', {'slave': hold.slave, 'master': hold.master, 'since': hold.first,
+                                         'to': hold.last, 'ending': ENDINGS[hold.cause]})
+                   for hold in holds_in_order(line))
+
+
+def ways_in_json(line: Line, entries: List[Entry]) -> str:
+    """Returns a line for each sender and each way in which requests of it were answered."""
+    counts = Counter((entry.master if entry.master in line.spec.masters else None, way)
+                     for entry in entries for way in entry.ways)
+    return ''.join(line_of_json('count', {'master': master, 'way': way, 'count': counts[master, way],
+                                          'fault': way in FAULTS})
+                   for master in line.spec.masters + [None] for way in WAYS if counts[master, way])
+
+
+def station_in_json(kind: str, address: int, counts: Counter) -> str:
+    """Returns the line of a station."""
+    def of(item: str) -> int:
+        return counts[f'{kind} {address}', item]
+
+    ways = [item.partition(': ')[2] for item in REFUSALS]
+    return line_of_json('station', {
+        'station': kind, 'address': address, 'exchanges': of(EXCHANGES), 'diagnoses': of(DIAGNOSES),
+        'retries': of(RETRIES), 'refused': {way: of(refused_by(way)) for way in ways if of(refused_by(way))},
+        'released': {ENDINGS[cause]: of(released_by(cause)) for cause in CAUSES if of(released_by(cause))},
+        'held': of(HELD) // MS_PER_UNIT})
+
+
+def polls_in_json(line: Line, entries: List[Entry]) -> str:
+    """Returns a line for each address that was polled by FDL status."""
+    stations = {**dict.fromkeys(line.slaves, 'slave'), **dict.fromkeys(line.spec.masters, 'master')}
+    return ''.join(line_of_json('poll', {'address': address, 'station': stations.get(address), 'count': count})
+                   for address, count in sorted(polls_of(entries).items()))
+
+
+def summary_in_json(line: Line, entries: List[Entry]) -> str:
+    """Returns the lines of the holds and of what was counted."""
+    counts = statistics_of(line, entries)
+    return (holds_in_json(line) + ways_in_json(line, entries)
+            + ''.join(station_in_json('slave', slave.address, counts) for slave in line.spec.slaves)
+            + ''.join(station_in_json('master', master, counts) for master in line.spec.masters)
+            + polls_in_json(line, entries))
 
 
 def verdict_in_json(verdict: str) -> str:
     """Returns the row of `check` as a line of JSON."""
     name, _, number = verdict.rpartition(' ')
-    return line_of_json({'verdict': name, 'entries' if name == 'legal' else 'row': int(number)})
+    return line_of_json('verdict', {'verdict': name, 'entries' if name == 'legal' else 'row': int(number)})
 
 
 # ---------------------------------------------------------------------------------------------------------------------
@@ -2062,9 +2241,12 @@ def output_in_rows(explained: Explained, options: Options) -> str:
 
 
 def output_in_json(explained: Explained, options: Options) -> str:
-    """Returns a line of JSON for each chosen entry, and one for the verdict."""
-    entries = ''.join(entry_in_json(entry) for entry in explained.entries if options.choose(entry))
-    return entries + verdict_in_json(explained.verdict)
+    """Returns the lines of JSON of the chosen entries, the summary and the verdict."""
+    output = ''
+    if explained.line is not None:
+        output = ''.join(entry_in_json(entry) for entry in explained.entries if options.choose(entry))
+        output += summary_in_json(explained.line, explained.entries)
+    return output + verdict_in_json(explained.verdict)
 
 
 def missing_station(explained: Explained, options: Options) -> str:
@@ -2136,7 +2318,8 @@ def status_of(expected: str) -> int:
     """Returns the status that goes with an expected output: its last row decides, and 2 goes with no output."""
     if not expected:
         return STATUS_WRONG_INPUT
-    is_legal = expected.splitlines()[-1].startswith(('legal ', '{"verdict":"legal",'))
+    last = expected.splitlines()[-1]
+    is_legal = last.startswith('legal ') or last.startswith('{') and json.loads(last)['verdict'] == 'legal'
     return STATUS_LEGAL if is_legal else STATUS_WRONG_TEXT
 
 

@@ -59,4 +59,4 @@ def refusal(place, master=2, address=5, sentence=NOT_HOLDER, rule="NotHolder", *
 
 def exchanges(first, count):
     """Returns entries that are routine."""
-    return [request(place, 1, 5, "Data_Exchange", reply=["inputs 01 02"]) for place in range(first, first + count)]
+    return [request(place, 1, 5, "Data_Exchange", reply="inputs 01 02") for place in range(first, first + count)]

@@ -37,11 +37,23 @@ def escaped(value):
     return {key: escaped(one) for key, one in value.items()} if isinstance(value, dict) else value
 
 
-def event(place, **fields):
-    """An entry, as `rackd explain --json` writes it."""
-    entry = {"place": place, "time": None, "from": "master", "master": 1, "to": "slave", "address": 5, "kind": "",
-             "dsap": None, "ssap": None, "octets": "680505688581", "decoded": None, "rule": "Done", "refused": False,
-             "fault": False, "sentence": "done.", "slaves": [], "reply": ["SC, short acknowledgement"], "changes": []}
+def outcome_of(sentence, rule):
+    """Returns the outcome of an answer with this sentence, by this rule."""
+    return "refused" if sentence.startswith("refused") else {"Done": "done", "Repeat": "repeat"}.get(rule, "no_reply")
+
+
+def reason_of(sentence):
+    """Returns the kind of a reason that the page reads, as an object of its facts."""
+    wrong = re.match("wrong (parameters|configuration)", sentence)
+    return {"kind": f"Wrong{wrong[1].title()}" if wrong else "Read"}
+
+
+def event(place, event, rule="Done", sentence="done.", reply="SC, short acknowledgement", **fields):
+    """An entry, as `rackd explain --json` writes it, as far as the page reads it."""
+    entry = {"version": 2, "kind": "entry", "place": place, "time": None, "from": "master", "master": 1, "to": "slave",
+             "address": 5, "event": event, "answer": {"outcome": outcome_of(sentence, rule), "rule": rule, "words": reply},
+             "refused": False, "fault": False, "surprising": False, "reason": reason_of(sentence), "sentence": sentence,
+             "slaves": [], "changes": [], "releases": []}
     return entry | fields
 
 
@@ -52,27 +64,40 @@ def request(place, master, slave, service, sentence="done.", rule="Done", **fiel
     refused = sentence.startswith("refused")
     fields = {"refused": refused, "fault": refused or sentence.startswith("wrong")} | fields
     if refused and "reply" not in fields:
-        fields["reply"] = ["RS, not activated"]
-    return event(place, master=master, address=slave, kind=frame, dsap=point, ssap=62 if point else None,
-                 sentence=sentence, rule=rule, **fields)
+        fields["reply"] = "RS, not activated"
+    sent = {"kind": "request", "dsap": point, "ssap": 62 if point else None,
+            "service": service if service in POINTS else None, "octets": "680505688581",
+            "decoded": fields.pop("decoded", None), "words": frame}
+    return event(place, sent, rule, sentence, master=master, address=slave, **fields)
 
 
-def to_all(place, master, sentence, slaves, command=("Sync", "group 1"), **fields):
+def to_all(place, master, sentence, slaves, command="Sync; group 1", **fields):
     """A Global_Control to all slaves."""
-    return event(place, master=master, to="all slaves", address=None, dsap=58, ssap=62,
-                 kind="SD2 SDN high FCB 0 FCV 0  Global_Control (58) from 62", decoded={"command": list(command)},
-                 rule=None, sentence=sentence, reply=None,
-                 slaves=[{"slave": slave, "rule": rule, "sentence": words} for slave, rule, words in slaves], **fields)
+    sent = {"kind": "request", "dsap": 58, "ssap": 62, "service": "Global_Control", "octets": "680505688581",
+            "decoded": {"as": "command", "words": command},
+            "words": "SD2 SDN high FCB 0 FCV 0  Global_Control (58) from 62"}
+    answers = [{"slave": slave, "outcome": outcome_of(words, rule), "rule": rule, "reason": reason_of(words),
+                "sentence": words} for slave, rule, words in slaves]
+    return event(place, sent, None, sentence, None, master=master, to="all_slaves", address=None, slaves=answers, **fields)
 
 
-def operation(place, kind, sentence="done.", slave=None, **fields):
+def operation(place, words, sentence="done.", slave=None, **fields):
     """An event of the operator, for a slave or for the line."""
-    return event(place, **{"from": "operator"}, master=None, to="line" if slave is None else "slave", address=slave,
-                 kind=kind, octets=None, rule=None, sentence=sentence, reply=None, **fields)
+    kinds = {"inputs": "in", "diagnosis": "diag", "halt": "halt"}
+    first = words.split(" ")[0]
+    sent = {"kind": kinds.get(first, "tick" if first.isdecimal() else "busy"), "words": words}
+    return event(place, sent, None, sentence, None, **{"from": "operator"}, master=None,
+                 to="line" if slave is None else "slave", address=slave, **fields)
 
 
 def change(slave, before, after):
-    return {"slave": slave, "from": before, "to": after}
+    """A change of a slave between two conditions, each in words."""
+    return {"slave": slave, "before": condition(before), "after": condition(after)}
+
+
+def condition(words):
+    state, holder = words.split(", held by ")
+    return {"state": state, "holder": None if holder == "nobody" else int(holder.removeprefix("master "))}
 
 
 def note(file, text):
@@ -89,7 +114,7 @@ def slave(address, **fields):
     one = {"address": address, "ident": "80A1", "state": "Wait_Prm", "holder": None, "since": 0, "release": None,
            "left": None, "full": None, "min_tsdr": 11, "group": 0, "inputs": "0000", "shown": "0000",
            "outputs": "0000", "latest": "0000", "sync": False, "freeze": False, "cleared": False, "diagnosis": quiet,
-           "busy": [], "lockers": None, "readers": None, "has_sync": False, "has_freeze": False, "fail_safe": False}
+           "busy": [], "lockers": None, "readers": None, "has_sync": False, "has_freeze": False, "failsafe": False}
     diagnosis = quiet | fields.pop("diagnosis", {})
     return one | fields | {"diagnosis": diagnosis}
 
@@ -241,7 +266,7 @@ def sample():
         held(6, 2, 4, left=15, inputs="0304", shown="0102", freeze=True, has_freeze=True, ident="0B3C",
              diagnosis={"ext_diag": True, "unread": True, "octets": "040700ff"}, busy=[None, 60]),
         slave(9, lockers=[1], readers=[1, 2], release={"place": 8, "ending": "its watchdog ran out"}),
-        slave(12, lockers=[2, 3], fail_safe=True, diagnosis={"prm_fault": True}),
+        slave(12, lockers=[2, 3], failsafe=True, diagnosis={"prm_fault": True}),
         slave(20, lockers=[], readers=[], outputs="", latest=""),
     ]
     first = Line(1, [1, 2, 3], slaves, time=200)
@@ -249,34 +274,35 @@ def sample():
     first.fields["masters"][1]["ways"] = [way("NotHolder", 3, True), way("wrong Set_Prm", 1, True), way("Done", 1000)]
     first.fields["masters"][3]["ways"] = [way("NoMaster", 1, True)]
     rack = Rack(first, Line(2, [1, 4], [slave(33)]))
-    parameters = {"parameters": ["Lock_Req", "watchdog 1000 ms", "min TSDR 11", "ident 80A1", "groups 1, 3"]}
+    parameters = {"as": "parameters", "words": "Lock_Req; watchdog 1000 ms; min TSDR 11; ident 80A1; groups 1, 3"}
     rack.add(
         note("line-1-1.audit", "line-1-1.audit begins; every slave waits for its parameters"),
-        request(1, 1, 5, "Slave_Diag", reply=["Station_Not_Ready", "Prm_Req", "held by nobody", "ident 80A1"]),
+        request(1, 1, 5, "Slave_Diag", reply="Station_Not_Ready; Prm_Req; held by nobody; ident 80A1"),
         request(2, 2, 12, "Set_Prm", "wrong parameters: ident 80D2, the slave has 80A1.", decoded=parameters),
         request(3, 1, 5, "Set_Prm", "locked: master 1 holds slave 5.", decoded=parameters,
                 changes=[change(5, FREE, LOCKED.format(1))]),
         request(4, 2, 6, "Set_Prm", "locked: master 2 holds slave 6.", decoded=parameters,
                 changes=[change(6, FREE, LOCKED.format(2))]),
-        request(5, 1, 5, "Chk_Cfg", "good configuration: number 0.", decoded={"configured": ["21 outputs 2 octets"]},
+        request(5, 1, 5, "Chk_Cfg", "good configuration: number 0.",
+                decoded={"as": "configured", "words": "21 outputs 2 octets"},
                 changes=[change(5, LOCKED.format(1), RUNNING.format(1))]),
         request(6, 1, 9, "Set_Prm", "locked: master 1 holds slave 9.", decoded=parameters,
                 changes=[change(9, FREE, LOCKED.format(1))]),
-        request(7, 1, 5, "Data_Exchange", decoded={"outputs": ["a0 01"]}, reply=["inputs 01 02"]),
+        request(7, 1, 5, "Data_Exchange", decoded={"as": "outputs", "words": "a0 01"}, reply="inputs 01 02"),
         operation(8, "100 units of time, 1000 ms",
                   "released: 9 (its watchdog of 1000 ms ran out: master 1 sent nothing that restarts it).", fault=True,
                   changes=[change(9, LOCKED.format(1), FREE)]),
         operation(9, "4 units of time, 40 ms", "no watchdog ran out.", time=100),
         request(10, 1, 12, "Chk_Cfg", "refused: NotActive. Slave 12 is in Wait_Prm, where Chk_Cfg is off.",
-                "NotActive", decoded={"configured": ["11 inputs 2 octets"]}, time=104),
+                "NotActive", decoded={"as": "configured", "words": "11 inputs 2 octets"}, time=104),
         request(11, 2, 5, "Set_Prm", "refused: NotHolder. Master 1 holds slave 5 since entry 3.", "NotHolder",
                 decoded=parameters, time=104),
         request(12, 2, 5, "Chk_Cfg", "refused: NotHolder. Master 1 holds slave 5 since entry 3.", "NotHolder",
-                decoded={"configured": ["21 outputs 2 octets"]}, time=104),
+                decoded={"as": "configured", "words": "21 outputs 2 octets"}, time=104),
         operation(13, "inputs 01 02", slave=5, time=104),
         request(14, 2, 5, "Set_Prm", "refused: NotHolder. Master 1 holds slave 5 since entry 3.", "NotHolder",
                 decoded=parameters, time=104),
-        request(15, 1, 5, "Data_Exchange", decoded={"outputs": ["a0 02"]}, reply=["inputs 01 02"], time=104),
+        request(15, 1, 5, "Data_Exchange", decoded={"as": "outputs", "words": "a0 02"}, reply="inputs 01 02", time=104),
     )
     rack.add(operation(1, "inputs 00 00", slave=33), line=1)
     return rack

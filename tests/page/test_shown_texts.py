@@ -13,7 +13,7 @@ def test_markup_is_text(shown):
     rack.rack, rack.folder = "<b>.toml", MARKUP
     rack.set(1, file=None)
     rack.add(note("line-1-1.audit", MARKUP), refusal(16, sentence=f"refused: {MARKUP}", rule="<script>alert(1)</script>",
-                                                     decoded={MARKUP: [MARKUP]}, reply=[MARKUP]))
+                                                     decoded={"as": MARKUP, "words": MARKUP}, reply=MARKUP))
     rack.lines[0].fields["masters"][0]["ways"].append(way(MARKUP, 1))
     page = shown.open(rack)
     assert page.sentence() == f"refused: {MARKUP}"

@@ -16,7 +16,7 @@ FIRST_SLAVE = {
     "address": 5, "ident": "80A1", "state": "Wait_Prm", "holder": None, "since": 0, "release": None, "left": None, "full": None,
     "min_tsdr": 11, "group": 0, "inputs": "0000", "shown": "0000", "outputs": "0000", "latest": "0000", "sync": False,
     "freeze": False, "cleared": False, "diagnosis": NO_DIAGNOSIS, "busy": [], "lockers": None, "readers": None, "has_sync": True,
-    "has_freeze": True, "fail_safe": False,
+    "has_freeze": True, "failsafe": False,
 }
 
 
@@ -24,11 +24,12 @@ def stored_texts():
     """Returns the audit texts of tests/explain whose stored explanation by `--json` is whole, legal and not too long."""
     found = []
     for path in sorted((TOP / "tests" / "explain").glob("*/*-json.out")):
-        wanted = path.read_bytes().splitlines()
+        lines = path.read_bytes().splitlines()
+        wanted = [row for row in lines if json.loads(row)["kind"] == "entry"]
         options = path.with_suffix(".options").read_text(encoding="utf-8").split()
-        if options == ["--json"] and 0 < len(wanted) <= RECENT and b'"legal"' in wanted[-1]:
+        if options == ["--json"] and 0 < len(wanted) <= RECENT and b'"legal"' in lines[-1]:
             text = path.with_name(path.name[:-len("-json.out")] + ".audit")
-            found.append(pytest.param(text, wanted[:-1], id=f"{path.parent.name}/{text.stem}"))
+            found.append(pytest.param(text, wanted, id=f"{path.parent.name}/{text.stem}"))
     return found
 
 

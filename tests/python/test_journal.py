@@ -3,7 +3,9 @@ import re
 
 import pytest
 
-from rackd import RS, Change, Journal, NoReply, Part, RackFault
+from rackd import (RS, Change, Condition, Decoded, Hold, Journal, NoReply, Part, RackFault, Release, StationCount, Verdict, WayCount,
+                   Why)
+from rackd.explained import explained_of
 from rackd.frames import sd1, sd2
 
 from support.clients import wait_for
@@ -36,30 +38,60 @@ def test_entries(filled):
     assert (filled.verdict, len(filled)) == ("legal", 9)
     assert [entry.place for entry in filled] == list(range(1, 10))
     assert [entry.rule for entry in filled] == ["Done", "Done", None, "Done", "NotHolder", None, "Status", "NoStation", None]
-    assert [entry.to for entry in filled] == ["slave", "slave", "line", "slave", "slave", "all slaves", "slave", "slave", "line"]
+    assert [entry.to for entry in filled] == ["slave", "slave", "line", "slave", "slave", "all_slaves", "slave", "slave", "line"]
     assert [entry.time for entry in filled] == [None, None, None, 3, 3, 3, 3, 3, 3]
 
 
 def test_typed_values_of_a_request(filled):
     lock = filled[0]
-    assert (lock.sender, lock.master, lock.address, lock.dsap, lock.ssap) == ("master", 1, 5, 61, 62)
+    assert (lock.sender, lock.master, lock.address) == ("master", 1, 5)
     # 85 81 6d 3d 3e 80 01 01 0b 80 a1 00, whose sum is worked out by hand
     assert lock.octets == bytes.fromhex("680c0c6885816d3d3e8001010b80a1009c16")
-    assert (lock.refused, lock.fault) == (False, False)
-    assert lock.decoded["parameters"][:3] == ("Lock_Req", "watchdog off", "min TSDR 11")
-    assert lock.changes == (Change(5, "Wait_Prm, held by nobody", "Wait_Cfg, held by master 1"),)
+    event = lock.event
+    assert (event.kind, event.frame, event.da, event.sa) == ("request", "SD2", 5, 1)
+    assert (event.function, event.fcb, event.fcv, event.service) == (13, True, False, "Set_Prm")
+    assert (event.dsap, event.ssap, event.data) == (61, 62, bytes.fromhex("8001010b80a100"))
+    assert (event.units, event.point, event.on) == (None, None, None)
+    assert event.decoded == Decoded(
+        "parameters", "Lock_Req; watchdog off; min TSDR 11; ident 80A1; groups none; user parameters none")
+    assert (lock.refused, lock.fault, lock.surprising, lock.releases) == (False, False, False, ())
+    assert lock.changes == (Change(5, Condition("Wait_Prm", None), Condition("Wait_Cfg", 1)),)
+    assert (lock.answer.outcome, lock.answer.octets, lock.answer.words) == ("done", b"\xe5", "SC, short acknowledgement")
 
 
-def test_typed_values_of_an_operator_and_of_replies(filled):
-    tick = filled[2]
-    assert (tick.sender, tick.master, tick.address, tick.octets, tick.reply) == ("operator", None, None, None, ())
-    assert dict(tick.decoded) == {}
-    assert filled[3].reply == ("inputs 00 00",)
+def test_typed_values_of_an_operator(filled):
+    tick, halt = filled[2], filled[8]
+    assert (tick.sender, tick.master, tick.address, tick.octets) == ("operator", None, None, None)
+    assert (tick.event.kind, tick.event.units, tick.event.words) == ("tick", 3, "3 units of time, 30 ms")
+    assert (tick.answer.outcome, tick.answer.octets, tick.reason) == ("ticked", None, Why("Ticked"))
+    assert (halt.answer.outcome, halt.reason["is_full"]) == ("halted", False)
+    assert halt.releases == (Release(5, 1, "halted", None),)
+
+
+def test_reply(filled):
+    assert filled[3].answer.words == "inputs 00 00"
+    assert filled[3].reason == Why("OutputsTaken")
 
 
 def test_slaves_of_a_global_control(filled):
-    assert [(part.slave, part.rule) for part in filled[5].slaves] == [(5, "Done")]
-    assert isinstance(filled[5].slaves[0], Part)
+    act = {"clear": False, "unsync": False, "sync": "not_sent", "unfreeze": False, "freeze": "not_sent"}
+    assert filled[5].slaves == (Part(5, "done", "Done", Why("Control", act), "done: no change."),)
+    assert (filled[5].answer.outcome, filled[5].rule, filled[5].reason) == ("spread", None, None)
+
+
+def test_summary(filled):
+    explained = filled.explained
+    assert explained.holds == (Hold(5, 1, 1, 9, "halted"),)
+    assert explained.counts == (WayCount(1, "NoStation", 1, True), WayCount(1, "Status", 1, False), WayCount(1, "Done", 4, False),
+                                WayCount(2, "NotHolder", 1, True))
+    assert explained.stations[0] == StationCount("slave", 5, 1, 0, 0, {"NotHolder": 1}, {"halted": 1}, 3)
+    assert [(poll.address, poll.station, poll.count) for poll in explained.polls] == [(5, "slave", 1)]
+    assert explained.verdict == Verdict("legal", entries=9)
+
+
+def test_lines_of_another_version():
+    with pytest.raises(ValueError, match="not of version 2"):
+        explained_of('{"verdict":"legal","entries":1}\n')
 
 
 def test_refused(filled):
@@ -67,6 +99,7 @@ def test_refused(filled):
     assert [(entry.place, entry.master, entry.rule, entry.refused) for entry in refused] == [
         (5, 2, "NotHolder", True), (8, 1, "NoStation", True)]
     assert "refused: NotHolder. Master 1 holds slave 5 since entry 1." in refused[0].sentence
+    assert refused[0].reason == Why("NotHolder", {"holder": 1, "since": 1})
 
 
 @pytest.mark.parametrize("options, places", [

@@ -20,7 +20,7 @@ for _ in range(5):
         for _ in range(number):
             rack.line(1).operator().tick(number)
         journal = rack.line(1).journal()
-        assert [entry.kind.split()[0] for entry in journal] == [str(number)] * number
+        assert [entry.event.words.split()[0] for entry in journal] == [str(number)] * number
 """
 
 

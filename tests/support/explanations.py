@@ -11,7 +11,7 @@ TOP = Path(__file__).resolve().parent.parent.parent
 STORED = TOP / "tests" / "explain"
 DAY = TOP / "examples" / "day-of-a-line"
 # A verdict as a line of JSON.
-JSON_VERDICT = re.compile(r'\{"verdict":"([a-z ]+)","(?:entries|row)":([0-9]+)\}')
+JSON_VERDICT = re.compile(r'\{"version":2,"kind":"verdict","verdict":"([a-z ]+)","(?:entries|row)":([0-9]+)\}')
 # The first row of a block has the place in one of these columns; all other rows of it have spaces there.
 HEAD_COLUMNS = 7
 

@@ -9,7 +9,11 @@ use Rattle.dp_line.specs.declared.event.Event.TheVariants.{Request, Operator}
 use Rattle.dp_line.specs.declared.event.Outcome.{Outcome}
 use Rattle.dp_line.specs.declared.event.Outcome.TheVariants.{Reply, Silence, Spread, Released, Done, Refused}
 use Rattle.dp_text.specs.Words.{same_text, words_of}
-use Rattle.explain_texts.specs.JsonRows.{first_of}
+
+-- the first row of an explanation
+abbrev pub first_of : List (List ℕ) → List ℕ
+first_of [] = []
+first_of (row ∷ rows) = row
 
 -- a word after a space; nothing if the word is empty, as between two spaces
 abbrev pub spaced_word : List ℕ → List ℕ

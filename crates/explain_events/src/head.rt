@@ -116,9 +116,9 @@ impl<'a> fmt::Display for OpKind<'a> {
     }
 }
 
-/// The kind of an event.
+/// The kind of an event, in words: the frame and the service of a request, or what the operator did.
 #[derive(Clone, Copy)]
-struct EventKind<'a>(&'a ReadEvent<'a>);
+pub struct EventKind<'a>(pub &'a ReadEvent<'a>);
 
 impl<'a> fmt::Display for EventKind<'a> {
     ghost output = { λ kind. Some (event_kind_text kind.0.now) };

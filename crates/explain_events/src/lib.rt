@@ -6,7 +6,8 @@
 //!
 //! [`ExplainedEntry`] displays the rows of an event that has an outcome. It reads what was known before the event
 //! ([`EventContext`]) and the line after it. Other texts about events use the sender and the receiver ([`SenderAndReceiver`]), how a hold ended ([`Ending`]), the way in which a
-//! request was answered ([`Answered`]), and columns. Contracts see the text that each of them displays. [`is_fault`]
+//! request was answered ([`Answered`]), the kind of an event ([`EventKind`]), the sentences alone ([`ResultSentence`],
+//! [`SlaveSentence`]; tests compare them with the rows), and columns. Contracts see the text that each of them displays. [`is_fault`]
 //! chooses the events that show a fault of the bus.
 //!
 //! Audit texts are in explain_texts. So the merge gate proves this crate beside dp_text and dp_audit.
@@ -35,6 +36,7 @@ mod reason;
 mod reason_words;
 mod releases;
 mod requests;
+mod result_sentence;
 mod sender_and_receiver;
 mod sentences;
 mod services;
@@ -55,12 +57,14 @@ pub use done::{CfgDone, Controlled, Done, ModeAct, PrmDone};
 pub use ending::Ending;
 pub use explain_octets::ReadOctets;
 pub use explained_entry::ExplainedEntry;
+pub use head::EventKind;
 pub use line_reasons::{LineReason, line_reason};
 pub use notes::{Noted, first_notes, note_event};
 pub use op_results::{Expired, OpResult, expired_at, op_result};
 pub use read_event::ReadEvent;
 pub use reason::{Lengths, Listing, Reason, Repeat, TakenService, reason_at};
 pub use releases::{Release, Taken, first_releases, note_releases, release_of};
+pub use result_sentence::{ResultSentence, SlaveSentence};
 pub use sender_and_receiver::{Receiver, SenderAndReceiver};
 pub use shown::slave_at;
 pub use way::Answered;

@@ -101,12 +101,12 @@ impl<'a> fmt::Display for OfTelegram<'a> {
 
 /// The answer of one slave, or the result by a rule of the line.
 #[derive(Clone, Copy)]
-struct OfOne<'a> {
-    context: &'a EventContext<'a>,
-    master: u8,
-    request: &'a ReadOctets<'a>,
-    silent: bool,
-    rule: Rule,
+pub(crate) struct OfOne<'a> {
+    pub(crate) context: &'a EventContext<'a>,
+    pub(crate) master: u8,
+    pub(crate) request: &'a ReadOctets<'a>,
+    pub(crate) silent: bool,
+    pub(crate) rule: Rule,
 }
 
 impl<'a> fmt::Display for OfOne<'a> {

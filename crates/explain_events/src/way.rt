@@ -44,7 +44,7 @@ impl Answered {
     }
 
     /// Returns whether the slave replied before it found the request wrong.
-    pub(crate) fn is_judged_afterwards(self) -> bool
+    pub fn is_judged_afterwards(self) -> bool
         ensures { result ≡ is_judged_afterwards self }
     {
         match self {

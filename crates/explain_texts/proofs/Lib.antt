@@ -6,8 +6,7 @@ pub mod TenTimes
 pub mod Writing
 pub mod Reporting
 pub mod Holding
-pub mod Places
-pub mod JsonFields
+pub mod PlainValues
 pub mod Knowing
 pub mod Rows
 pub mod RightRows

@@ -1,7 +1,7 @@
 -- detail
 -- The values of JSON: numbers, strings, and arrays (RFC 8259; own).
-use Rattle.std.specs.Prelude.{codes, ℕ, ◌==◌, ◌&&◌, not, nat_le, if◌then◌else◌, Bool, true, false, List, [], ◌∷◌, ◌++◌, map, Option, Some, None}
-use Rattle.std.specs.List.{flat_map, slice_split}
+use Rattle.std.specs.Prelude.{codes, ℕ, ◌==◌, ◌&&◌, not, nat_le, if◌then◌else◌, Bool, true, false, List, [], ◌∷◌, ◌++◌, Option, Some, None}
+use Rattle.std.specs.List.{flat_map}
 use Rattle.std.specs.Fmt.{decimal}
 use Rattle.explain_octets.specs.Words.{hex_pair}
 
@@ -41,15 +41,3 @@ each_behind separator (value ∷ values) = separator ++ value ++ each_behind (co
 
 unfoldable pub array_json : List (List ℕ) → List ℕ
 array_json values = codes "[" ++ each_behind [] values ++ codes "]"
-
--- a text without the space at its front
-abbrev pub unspaced : List ℕ → List ℕ
-unspaced [] = []
-unspaced (octet ∷ octets) = if octet == 32 then octets else octet ∷ octets
-
--- the fields of a text, with a semicolon and a space between
-abbrev pub fields_of : List ℕ → List (List ℕ)
-fields_of text = map unspaced (slice_split (λ octet. octet == 59) text)
-
-unfoldable pub fields_json : List ℕ → List ℕ
-fields_json text = array_json (map string_json (fields_of text))

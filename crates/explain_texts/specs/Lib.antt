@@ -7,9 +7,7 @@ pub mod StationCounts
 pub mod Statistics
 pub mod Known
 pub mod JsonValues
-pub mod JsonRows
 pub mod Json
-pub mod JsonWriting
 pub mod JsonCounts
 pub mod JsonExamples
 pub mod Reported

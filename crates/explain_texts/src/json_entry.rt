@@ -1,262 +1,368 @@
-//! An entry as a line of JSON. It is made of the rows of its explained_entry, so that both always agree.
+//! An entry as a line of JSON, made of its facts.
 
-ghost use Rattle.std.specs.Prelude.{codes, Some};
-ghost use Rattle.dp_text.specs.Words.{lines_of};
-ghost use Rattle.explain_texts.specs.Explained.{Leaves};
-ghost use Rattle.explain_texts.specs.Json.{answer_json, data_json, effects_json, entry_json, entry_of_rows, octets_json, reply_json, route_json, rule_json, sent_json};
-ghost use Rattle.explain_texts.specs.JsonRows.{data_row, texts_labelled};
-
-use crate::explain_fault::ExplainFault;
-use crate::json_facts::{
-    dsap_of, pairs_of, parts_in, receiver_address, receiver_word, rule_of, sender_address,
-    sender_word, ssap_of,
+use crate::json_event::LABEL_COLUMNS;
+use crate::json_field::{Fields, number_or_null, octet, octet_or_null, truth, word};
+use crate::json_names::{
+    ending_name, outcome_name, receiver_address, receiver_name, sender_address, sender_name,
 };
-use crate::json_lists::{Changes, SlaveAnswers};
-use crate::json_rows::{data_row, first_labelled, kind_in, label_of, next_labelled, text_of};
-use crate::json_values::{Fields, NumberOrNull, Quoted, truth_name};
-use crate::output::write_rows;
-use dp_line::{Event, Outcome, is_refused};
+use crate::json_reason::{FactsOfKind, line_facts, operator_facts, operator_outcome, slave_facts};
+use crate::json_text::JsonText;
+use dp_line::{Event, Op, Outcome, is_refused};
 use dp_responder::Rule;
-use dp_text::{Lines, Text};
-use explain_events::{EventContext, ExplainedEntry, SenderAndReceiver, is_fault};
-use std::fmt;
-use std::io::Write;
+use explain_events::{
+    Change, Ending, EventContext, ExplainedEntry, ReadEvent, ReadOctets, Reason, Receiver,
+    ResultSentence, SenderAndReceiver, SlaveSentence, StateAndHolder, answered, change_at,
+    expired_at, is_fault, line_reason, op_result, reason_at, same_holder, state_name, touched,
+};
+use explain_octets::Reply;
 
-/// The place of an event, the time, the sender and the receiver.
-#[derive(Clone, Copy)]
-struct Route {
-    time: Option<u64>,
-    place: u64,
-    sender_and_receiver: SenderAndReceiver,
-}
-
-impl fmt::Display for Route {
-    ghost output = { λ s. Some (route_json s.time s.place s.sender_and_receiver) };
-
-    fn fmt<W: fmt::Write>(&self, f: &mut fmt::Formatter<W>) -> fmt::Result {
-        let place = self.place;
-        let time = NumberOrNull(self.time);
-        let from = Quoted(sender_word(self.sender_and_receiver).as_bytes());
-        let master = NumberOrNull(sender_address(self.sender_and_receiver));
-        let to = Quoted(receiver_word(self.sender_and_receiver).as_bytes());
-        let address = NumberOrNull(receiver_address(self.sender_and_receiver));
-        write!(
-            f,
-            "\"place\":{place},\"time\":{time},\"from\":{from},\"master\":{master},\"to\":{to},\"address\":{address}"
-        )
+impl JsonText {
+    /// Makes the text the line of an entry but for its front, which ends with the place.
+    pub(crate) fn set_entry(&mut self, entry: &ExplainedEntry<'_>) {
+        self.clear();
+        let event = ReadEvent::new(entry.event);
+        let context = entry.context;
+        self.route(
+            context.time,
+            SenderAndReceiver::from_event(entry.event),
+        );
+        self.event(&event);
+        self.answer(entry, &event);
+        self.judgement(entry);
+        self.result(entry, &event);
+        let addresses = touched(&event, entry.outcome);
+        self.changes(entry, addresses.as_slice());
+        self.releases(entry, addresses.as_slice());
+        self.end_line();
     }
-}
 
-/// The octets of a request, as an audit text has them; `null` for an event of the operator.
-#[derive(Clone, Copy)]
-struct Octets<'a>(&'a Event);
+    /// Appends the time before an event, its sender and its receiver.
+    fn route(&mut self, time: Option<u64>, sent: SenderAndReceiver) {
+        self.fields(&[
+            number_or_null("time", time),
+            word("from", sender_name(sent)),
+            octet_or_null("master", sender_address(sent)),
+            word("to", receiver_name(sent)),
+            octet_or_null("address", receiver_address(sent)),
+        ]);
+    }
 
-impl<'a> fmt::Display for Octets<'a> {
-    ghost output = { λ s. Some (octets_json s.0.now) };
+    // ---- the answer
 
-    fn fmt<W: fmt::Write>(&self, f: &mut fmt::Formatter<W>) -> fmt::Result {
-        match self.0 {
-            Event::Request { octets, .. } => {
-                let mut text = Text::new();
-                match octets.as_slice() {
-                    [] => text.push_str("-"),
-                    some => text.push_hex(some),
-                }
-                let octets = Quoted(text.as_bytes());
-                write!(f, "{octets}")
+    /// Appends a field with the answer to an event.
+    fn answer(&mut self, entry: &ExplainedEntry<'_>, event: &ReadEvent<'_>) {
+        self.open("answer");
+        match event.event() {
+            Event::Request { master, .. } => self.request_answer(entry, *master, event.request()),
+            Event::Operator(op) => {
+                self.one(word("outcome", outcome_of_op(entry, op)));
+                self.no_rule();
             }
-            Event::Operator(_) => f.write_str("null"),
+        }
+        self.close();
+    }
+
+    fn request_answer(&mut self, entry: &ExplainedEntry<'_>, master: u8, request: &ReadOctets<'_>) {
+        match entry.outcome {
+            Outcome::Reply { octets, rule } => {
+                self.fields(&rule_fields(*rule));
+                self.hex("octets", octets.as_slice());
+                let way = answered(entry.context, master, request, *rule);
+                self.reply(request, octets.as_slice(), way.is_judged_afterwards());
+            }
+            Outcome::Silence(rule) => self.silence(*rule),
+            Outcome::Done => self.silence(Rule::Done),
+            Outcome::Spread(_) => self.no_reply_of("spread"),
+            Outcome::Released(_) => self.no_reply_of("released"),
+            Outcome::Refused(_) => self.no_reply_of("refused"),
         }
     }
-}
 
-/// The data that a explained_entry shows of a request, by the label of their row; `null` if there are none.
-#[derive(Clone, Copy)]
-struct Decoded<'a>(&'a [u8]);
+    /// Appends the fields of an answer to which nobody replies.
+    fn silence(&mut self, rule: Rule) {
+        self.fields(&rule_fields(rule));
+        self.null("octets");
+        self.null("words");
+    }
 
-impl<'a> fmt::Display for Decoded<'a> {
-    ghost output = { λ s. Some (data_json (data_row (lines_of s.0.now))) };
+    /// Appends the fields of an outcome without a rule.
+    fn no_reply_of(&mut self, outcome: &'static str) {
+        self.one(word("outcome", outcome));
+        self.no_rule();
+    }
 
-    fn fmt<W: fmt::Write>(&self, f: &mut fmt::Formatter<W>) -> fmt::Result {
-        match data_row(self.0) {
-            Some(row) => {
-                let label = Quoted(label_of(row));
-                let fields = Fields(text_of(row));
-                write!(f, "{{{label}:{fields}}}")
-            }
-            None => f.write_str("null"),
+    fn no_rule(&mut self) {
+        self.null("rule");
+        self.null("octets");
+        self.null("words");
+    }
+
+    /// Appends a reply in words.
+    fn reply(&mut self, request: &ReadOctets<'_>, octets: &[u8], is_judged_afterwards: bool) {
+        let reply = ReadOctets::new(octets);
+        match Reply::from_octets(request, &reply, is_judged_afterwards) {
+            Some(reply) => self.words_behind("words", LABEL_COLUMNS, &reply),
+            None => self.null("words"),
         }
     }
-}
 
-/// What was sent.
-#[derive(Clone, Copy)]
-struct Sent<'a> {
-    time: Option<u64>,
-    place: u64,
-    event: &'a Event,
-    rows: &'a [u8],
-}
-
-impl<'a> fmt::Display for Sent<'a> {
-    ghost output = { λ s. Some (sent_json s.time s.place s.event.now (lines_of s.rows.now)) };
-
-    fn fmt<W: fmt::Write>(&self, f: &mut fmt::Formatter<W>) -> fmt::Result {
-        let kind = Quoted(kind_in(self.time, self.place, self.rows));
-        let parts = parts_in(self.event);
-        let dsap = NumberOrNull(dsap_of(&parts));
-        let ssap = NumberOrNull(ssap_of(&parts));
-        let octets = Octets(self.event);
-        let decoded = Decoded(self.rows);
-        write!(
-            f,
-            "\"kind\":{kind},\"dsap\":{dsap},\"ssap\":{ssap},\"octets\":{octets},\"decoded\":{decoded}"
-        )
+    /// Appends whether an event was refused, and whether it shows a fault of the bus.
+    fn judgement(&mut self, entry: &ExplainedEntry<'_>) {
+        self.one(truth("refused", is_refused(entry.event, entry.outcome)));
+        self.one(truth("fault", is_fault(entry.context, entry.event, entry.outcome)));
     }
-}
 
-/// The rule that answered a request; `null` if no single rule did.
-#[derive(Clone, Copy)]
-struct RuleOrNull(Option<Rule>);
+    // ---- the reason
 
-impl fmt::Display for RuleOrNull {
-    ghost output = { λ s. Some (rule_json s.0) };
+    /// Appends the facts of an answer, whether they surprise, and its sentence; of a request to all slaves also those of each
+    /// slave.
+    fn result(&mut self, entry: &ExplainedEntry<'_>, event: &ReadEvent<'_>) {
+        match event.event() {
+            Event::Request { master, .. } => self.request_reason(entry, *master, event.request()),
+            Event::Operator(op) => {
+                self.one(truth("surprising", false));
+                self.reason(facts_of_op(entry, op));
+            }
+        }
+        self.words(
+            "sentence",
+            &ResultSentence {
+                context: entry.context,
+                event,
+                outcome: entry.outcome,
+            },
+        );
+        self.open_list("slaves");
+        match event.event() {
+            Event::Request { master, .. } => self.slaves(entry, *master, event.request()),
+            Event::Operator(_) => {}
+        }
+        self.close_list();
+    }
 
-    fn fmt<W: fmt::Write>(&self, f: &mut fmt::Formatter<W>) -> fmt::Result {
-        match self.0 {
+    fn request_reason(&mut self, entry: &ExplainedEntry<'_>, master: u8, request: &ReadOctets<'_>) {
+        match rule_of(entry.outcome) {
             Some(rule) => {
-                let name = Quoted(rule.name().as_bytes());
-                write!(f, "{name}")
+                let at = reason_of(entry.context, master, request, rule);
+                self.one(truth("surprising", surprises(at)));
+                match at {
+                    Some(reason) => self.reason(Some(slave_facts(reason))),
+                    None => self.reason(facts_of_line(entry.context, master, request, rule)),
+                }
             }
-            None => f.write_str("null"),
+            None => {
+                self.one(truth("surprising", false));
+                self.reason(None);
+            }
         }
     }
-}
 
-/// How an event was answered.
-#[derive(Clone, Copy)]
-struct Answer<'a> {
-    context: &'a EventContext<'a>,
-    event: &'a Event,
-    outcome: &'a Outcome,
-    rows: &'a [u8],
-}
-
-impl<'a> fmt::Display for Answer<'a> {
-    ghost output = { λ s. Some (answer_json s.context.now s.event.now s.outcome.now (lines_of s.rows.now)) };
-
-    fn fmt<W: fmt::Write>(&self, f: &mut fmt::Formatter<W>) -> fmt::Result {
-        let rule = RuleOrNull(rule_of(self.event, self.outcome));
-        let refused = truth_name(is_refused(self.event, self.outcome));
-        let fault = truth_name(is_fault(self.context, self.event, self.outcome));
-        let sentence = Quoted(first_labelled(b"result", self.rows));
-        write!(
-            f,
-            "\"rule\":{rule},\"refused\":{refused},\"fault\":{fault},\"sentence\":{sentence}"
-        )
-    }
-}
-
-/// A reply, in fields; `null` if there is none.
-#[derive(Clone, Copy)]
-struct Reply<'a>(&'a [u8]);
-
-impl<'a> fmt::Display for Reply<'a> {
-    ghost output = { λ s. Some (reply_json (texts_labelled (codes "reply") (lines_of s.0.now))) };
-
-    fn fmt<W: fmt::Write>(&self, f: &mut fmt::Formatter<W>) -> fmt::Result {
-        match next_labelled(b"reply", &mut Lines::new(self.0)) {
-            Some(text) => {
-                let fields = Fields(text);
-                write!(f, "{fields}")
-            }
-            None => f.write_str("null"),
+    /// Appends the answers of the slaves to a request to all.
+    fn slaves(&mut self, entry: &ExplainedEntry<'_>, master: u8, request: &ReadOctets<'_>) {
+        for pair in pairs_of(entry.outcome) {
+            self.slave_answer(entry.context, master, request, *pair);
         }
     }
-}
 
-/// The answers of slaves, the reply, and what changed.
-#[derive(Clone, Copy)]
-struct Effects<'a> {
-    outcome: &'a Outcome,
-    rows: &'a [u8],
-}
-
-impl<'a> fmt::Display for Effects<'a> {
-    ghost output = { λ s. Some (effects_json s.outcome.now (lines_of s.rows.now)) };
-
-    fn fmt<W: fmt::Write>(&self, f: &mut fmt::Formatter<W>) -> fmt::Result {
-        let slaves = SlaveAnswers {
-            pairs: pairs_of(self.outcome),
-            rows: self.rows,
+    fn slave_answer(
+        &mut self,
+        context: &EventContext<'_>,
+        master: u8,
+        request: &ReadOctets<'_>,
+        pair: (u8, Rule),
+    ) {
+        let (address, rule) = pair;
+        self.open_element();
+        self.one(octet("slave", address));
+        self.fields(&rule_fields(rule));
+        let facts = match reason_at(context, master, request, address, rule) {
+            Some(reason) => Some(slave_facts(reason)),
+            None => None,
         };
-        let reply = Reply(self.rows);
-        let changes = Changes(self.rows);
-        write!(
-            f,
-            "\"slaves\":{slaves},\"reply\":{reply},\"changes\":{changes}"
-        )
+        self.reason(facts);
+        self.words(
+            "sentence",
+            &SlaveSentence {
+                context,
+                master,
+                request,
+                pair,
+            },
+        );
+        self.close();
+    }
+
+    // ---- the changes
+
+    /// Appends the changes of those of these slaves that an event changed.
+    fn changes(&mut self, entry: &ExplainedEntry<'_>, addresses: &[u8]) {
+        let context = entry.context;
+        self.open_list("changes");
+        for address in addresses {
+            if let Some(change) = change_at(context.before, entry.after, *address) {
+                self.change(change);
+            }
+        }
+        self.close_list();
+    }
+
+    /// Appends the releases of those of these slaves that an event released.
+    fn releases(&mut self, entry: &ExplainedEntry<'_>, addresses: &[u8]) {
+        let context = entry.context;
+        let ending = Ending::by(entry.event);
+        self.open_list("releases");
+        for address in addresses {
+            if let Some(change) = change_at(context.before, entry.after, *address) {
+                self.release(context, change, ending);
+            }
+        }
+        self.close_list();
+    }
+
+    fn change(&mut self, change: Change) {
+        self.open_element();
+        self.one(octet("slave", change.address));
+        self.state_and_holder("before", change.before);
+        self.state_and_holder("after", change.after);
+        self.close();
+    }
+
+    fn state_and_holder(&mut self, key: &str, of: StateAndHolder) {
+        self.open(key);
+        self.one(word("state", state_name(of.state)));
+        self.one(octet_or_null("holder", of.holder));
+        self.close();
+    }
+
+    /// Appends a release, if the change ended a hold.
+    fn release(&mut self, context: &EventContext<'_>, change: Change, ending: Ending) {
+        let Some(holder) = change.before.holder else {
+            return;
+        };
+        if same_holder(change.before.holder, change.after.holder) {
+            return;
+        }
+        self.open_element();
+        self.fields(&[
+            octet("slave", change.address),
+            octet("master", holder),
+            word("ending", ending_name(ending)),
+            number_or_null("watchdog", watchdog_of(context, change.address, ending)),
+            None,
+        ]);
+        self.close();
     }
 }
 
-/// The line of an event, by the rows of its explained_entry.
-#[derive(Clone, Copy)]
-struct EntryLine<'a> {
-    explained_entry: &'a ExplainedEntry<'a>,
-    rows: &'a [u8],
-}
-
-impl<'a> fmt::Display for EntryLine<'a> {
-    ghost output = { λ s. Some (entry_of_rows s.explained_entry.now.context.now s.explained_entry.now.place s.explained_entry.now.event.now s.explained_entry.now.outcome.now (lines_of s.rows.now)) };
-
-    #[tactic(auto, unfolding(crate::specs::Json::entry_of_rows))]
-    fn fmt<W: fmt::Write>(&self, f: &mut fmt::Formatter<W>) -> fmt::Result {
-        let explained_entry = self.explained_entry;
-        let context = explained_entry.context;
-        let route = Route {
-            time: context.time,
-            place: explained_entry.place,
-            sender_and_receiver: SenderAndReceiver::from_event(explained_entry.event),
-        };
-        let sent = Sent {
-            time: context.time,
-            place: explained_entry.place,
-            event: explained_entry.event,
-            rows: self.rows,
-        };
-        let answer = Answer {
-            context,
-            event: explained_entry.event,
-            outcome: explained_entry.outcome,
-            rows: self.rows,
-        };
-        let effects = Effects {
-            outcome: explained_entry.outcome,
-            rows: self.rows,
-        };
-        write!(f, "{{{route},{sent},{answer},{effects}}}\n")
+/// Returns the time of the watchdog that released a slave, in units of 10 ms; None if the release was by something else.
+fn watchdog_of(context: &EventContext<'_>, address: u8, ending: Ending) -> Option<u64> {
+    match ending {
+        Ending::Watchdog => match expired_at(context.before, address).watchdog {
+            Some(units) => Some(u64::from(units)),
+            None => None,
+        },
+        Ending::WrongConfiguration => None,
+        Ending::WrongParameters => None,
+        Ending::Unlocked => None,
+        Ending::Halted => None,
+        Ending::Lasts => None,
     }
 }
 
-/// Writes the line of an event. `rows` and `line` are buffers for its explained_entry and for the line.
-#[tactic(auto, unfolding(crate::specs::Json::entry_json))]
-pub(crate) fn write_entry_line<W: Write>(
-    explained_entry: &ExplainedEntry<'_>,
-    rows: &mut String,
-    line: &mut String,
-    writer: &mut W,
-) -> Result<(), ExplainFault>
-    ensures { Leaves (entry_json explained_entry.now.context.now explained_entry.now.after.now.world explained_entry.now.place explained_entry.now.event.now explained_entry.now.outcome.now)
-        (W.contents writer.old) (W.contents writer.new) result }
-{
-    rows.clear();
-    match write!(rows, "{explained_entry}") {
-        Ok(()) => {}
-        Err(_) => return Err(ExplainFault::OutOfMemory),
+/// Returns the outcome of an answer by this rule, and the rule.
+fn rule_fields(rule: Rule) -> Fields {
+    [
+        word("outcome", outcome_name(rule)),
+        word("rule", rule.name()),
+        None,
+        None,
+        None,
+    ]
+}
+
+/// Returns the one rule that answered a request; None for a request to all slaves.
+fn rule_of(outcome: &Outcome) -> Option<Rule> {
+    match outcome {
+        Outcome::Reply { rule, .. } => Some(*rule),
+        Outcome::Silence(rule) => Some(*rule),
+        Outcome::Done => Some(Rule::Done),
+        Outcome::Spread(_) => None,
+        Outcome::Released(_) => None,
+        Outcome::Refused(_) => None,
     }
-    let entry = EntryLine {
-        explained_entry,
-        rows: rows.as_bytes(),
-    };
-    write_rows(&entry, line, writer)
+}
+
+/// Returns the slaves that a request to all slaves reached, and the rule by which each answered.
+fn pairs_of(outcome: &Outcome) -> &[(u8, Rule)] {
+    match outcome {
+        Outcome::Spread(pairs) => pairs.as_slice(),
+        Outcome::Reply { .. } => &[],
+        Outcome::Silence(_) => &[],
+        Outcome::Released(_) => &[],
+        Outcome::Done => &[],
+        Outcome::Refused(_) => &[],
+    }
+}
+
+/// Returns the facts of the answer of the slave that a request is sent to; None if a rule of the line answered.
+fn reason_of(
+    context: &EventContext<'_>,
+    master: u8,
+    request: &ReadOctets<'_>,
+    rule: Rule,
+) -> Option<Reason> {
+    match Receiver::of_request(request) {
+        Receiver::Slave(address) => reason_at(context, master, request, address, rule),
+        Receiver::AllSlaves => None,
+        Receiver::Station(_) => None,
+        Receiver::Nobody => None,
+    }
+}
+
+/// Returns why nobody replied to a request, by a rule that concerns the line.
+fn facts_of_line(
+    context: &EventContext<'_>,
+    master: u8,
+    request: &ReadOctets<'_>,
+    rule: Rule,
+) -> Option<FactsOfKind> {
+    match line_reason(context.line.masters.as_slice(), master, request, rule) {
+        Some(reason) => Some(line_facts(reason)),
+        None => None,
+    }
+}
+
+/// Returns whether what a slave did surprises.
+fn surprises(reason: Option<Reason>) -> bool {
+    match reason {
+        Some(Reason::Done(done)) => done.is_surprising(),
+        Some(Reason::Status { .. }) => false,
+        Some(Reason::NoService { .. }) => false,
+        Some(Reason::Repeat(_)) => false,
+        Some(Reason::NoPoint { .. }) => false,
+        Some(Reason::PointOff { .. }) => false,
+        Some(Reason::NotHolder { .. }) => false,
+        Some(Reason::NotListed { .. }) => false,
+        Some(Reason::Busy { .. }) => false,
+        Some(Reason::Length { .. }) => false,
+        Some(Reason::NotSelected { .. }) => false,
+        None => false,
+    }
+}
+
+/// Returns the result of an event of the operator.
+fn facts_of_op(entry: &ExplainedEntry<'_>, op: &Op) -> Option<FactsOfKind> {
+    let context = entry.context;
+    match op_result(context.before, op, entry.outcome) {
+        Some(result) => Some(operator_facts(result)),
+        None => None,
+    }
+}
+
+fn outcome_of_op(entry: &ExplainedEntry<'_>, op: &Op) -> &'static str {
+    let context = entry.context;
+    match op_result(context.before, op, entry.outcome) {
+        Some(result) => operator_outcome(result),
+        None => "done",
+    }
 }

@@ -1,12 +1,9 @@
-//! The values of JSON: numbers, strings, and arrays of strings.
+//! The values of JSON: numbers, truth values, and strings.
 
-ghost use Rattle.std.specs.Prelude.{◌≡◌, ◌<◌, ◌∷◌, map, length, IfSome, Some};
-ghost use Rattle.std.specs.Fmt.{WritesOnOk};
+ghost use Rattle.std.specs.Prelude.{◌≡◌, Some};
 ghost use Rattle.std.specs.List.{list_all};
-ghost use Rattle.explain_texts.specs.JsonValues.{each_behind, fields_json, fields_of, inside_json, is_plain, number_json, octet_json, string_json, truth_json, unspaced};
-ghost use Rattle.explain_texts.specs.JsonWriting.{fields_left};
+ghost use Rattle.explain_texts.specs.JsonValues.{inside_json, is_plain, number_json, octet_json, string_json, truth_json};
 
-use crate::slices::{behind, index_of};
 use explain_octets::HexPair;
 use std::fmt;
 
@@ -65,7 +62,7 @@ impl fmt::Display for StringOctet {
 
 /// A text within the quotation marks of a string.
 #[derive(Clone, Copy)]
-pub(crate) struct Inside<'a>(pub(crate) &'a [u8]);
+struct Inside<'a>(&'a [u8]);
 
 impl<'a> fmt::Display for Inside<'a> {
     ghost output = { λ s. Some (inside_json s.0.now) };
@@ -95,62 +92,5 @@ impl<'a> fmt::Display for Quoted<'a> {
     fn fmt<W: fmt::Write>(&self, f: &mut fmt::Formatter<W>) -> fmt::Result {
         let inside = Inside(self.0);
         write!(f, "\"{inside}\"")
-    }
-}
-
-/// The fields of a text, as an array of strings.
-#[derive(Clone, Copy)]
-pub(crate) struct Fields<'a>(pub(crate) &'a [u8]);
-
-impl<'a> fmt::Display for Fields<'a> {
-    ghost output = { λ s. Some (fields_json s.0.now) };
-
-    fn fmt<W: fmt::Write>(&self, f: &mut fmt::Formatter<W>) -> fmt::Result {
-        f.write_str("[")?;
-        write_fields(f, "", self.0)?;
-        f.write_str("]")
-    }
-}
-
-/// Writes the fields of a text as strings, the first one after this separator.
-fn write_fields<W: fmt::Write>(
-    f: &mut fmt::Formatter<W>,
-    separator: &str,
-    text: &[u8],
-) -> fmt::Result
-    ensures { WritesOnOk W.Write.write_str_gives f.old result (each_behind separator.now (map string_json (fields_of text.now))) f.new }
-{
-    let (field, rest) = first_field(text);
-    let field = Quoted(field);
-    write!(f, "{separator}{field}")?;
-    match rest {
-        Some(rest) => write_fields(f, ",", rest),
-        None => Ok(()),
-    }
-}
-
-/// Returns the first field of a text, and the text after its semicolon, if it has one.
-#[tactic(auto, using(crate::proofs::JsonFields::first_is, crate::proofs::JsonFields::only_one))]
-fn first_field(text: &[u8]) -> (&[u8], Option<&[u8]>)
-    ensures fields { fields_of text.now ≡ result.0.now ∷ fields_left result.1 }
-    ensures shorter { IfSome result.1 (λ rest. length rest.now < length text.now) }
-{
-    match index_of(text, b';') {
-        Some(index) => {
-            let (field, _) = text.split_at(index);
-            (unspaced(field), Some(behind(text, index + 1)))
-        }
-        None => (unspaced(text), None),
-    }
-}
-
-/// Returns a text without the space at its front.
-fn unspaced(text: &[u8]) -> &[u8]
-    ensures { result.now ≡ unspaced text.now }
-{
-    match text {
-        [b' ', others @ ..] => others,
-        [] => text,
-        [_, ..] => text,
     }
 }

@@ -1,27 +1,26 @@
 //! The facts of an explanation as lines of JSON.
 
 ghost use Rattle.std.specs.Prelude.{◌≡◌};
+ghost use Rattle.explain_texts.specs.Json.{entry_front};
 
 use crate::explain_fault::ExplainFault;
-use crate::json_entry::write_entry_line;
-use crate::output::write_text;
+use crate::json_text::JsonText;
+use crate::output::{write_after, write_text};
 use crate::summary::Summary;
 use crate::takes_facts::{TakesEntries, TakesFacts};
-use crate::verdict_words::set_json_verdict;
+use crate::verdict_words::set_verdict_line;
 use dp_audit::AuditFault;
 use dp_text::Text;
 use explain_events::ExplainedEntry;
 use std::alloc::Global;
 use std::io::Write;
 
-/// Writes facts as lines of JSON on a writer: a line for each entry and for the verdict, none for the summary. It takes
-/// memory for the rows and the line of one entry.
+/// Writes facts as lines of JSON on a writer: a line for each entry, lines for the summary, and a line for the verdict. It
+/// takes memory for the lines of one fact.
 #[derive(Drop)]
 pub struct JsonWriter<W> {
-    /// A buffer for the rows of one entry.
-    rows: String,
-    /// A buffer for its line.
-    line: String,
+    /// A buffer for the lines of one fact.
+    lines: JsonText,
     pub writer: W,
 }
 
@@ -31,8 +30,7 @@ impl<W: Write> JsonWriter<W> {
         ensures { result.writer ≡ writer }
     {
         JsonWriter {
-            rows: String::new(alloc),
-            line: String::new(alloc),
+            lines: JsonText::new(alloc),
             writer,
         }
     }
@@ -51,18 +49,37 @@ impl<W: Write> TakesEntries for JsonWriter<W> {
     ghost takes = { λ old fact result new. WritesLine fact (W.contents old.writer) (W.contents new.writer) result };
 
     fn take_entry(&mut self, entry: &ExplainedEntry<'_>) -> Result<(), ExplainFault> {
-        write_entry_line(entry, &mut self.rows, &mut self.line, &mut self.writer)
+        self.lines.set_entry(entry);
+        let front = entry_front(entry.place);
+        match self.lines.octets() {
+            Ok(line) => write_after(front.as_bytes(), line, &mut self.writer),
+            Err(fault) => Err(fault),
+        }
     }
 }
 
 impl<W: Write> TakesFacts for JsonWriter<W> {
-    fn take_summary(&mut self, _summary: &Summary<'_>) -> Result<(), ExplainFault> {
-        Ok(())
+    fn take_summary(&mut self, summary: &Summary<'_>) -> Result<(), ExplainFault> {
+        self.lines.set_summary(summary);
+        match self.lines.octets() {
+            Ok(lines) => write_after(b"", lines, &mut self.writer),
+            Err(fault) => Err(fault),
+        }
     }
 
     fn take_verdict(&mut self, verdict: Result<u32, AuditFault>) -> Result<(), ExplainFault> {
         let mut text = Text::new();
-        set_json_verdict(&mut text, verdict);
+        set_verdict_line(&mut text, verdict);
         write_text(&text, &mut self.writer)
     }
+}
+
+/// Returns the front of the line of the entry at a place.
+fn entry_front(place: u64) -> Text
+    ensures { result ≡ entry_front place }
+{
+    let mut front = Text::new();
+    front.push_str("{\"version\":2,\"kind\":\"entry\",\"place\":");
+    front.push_long(place);
+    front
 }

@@ -7,7 +7,8 @@
 //! explains the rows from there on. Each row is checked before it is explained.
 //!
 //! An explanation is a list of facts, which go to any receiver ([`TakesFacts`]). [`RowWriter`] writes them as rows,
-//! [`JsonWriter`] as lines of JSON, and [`FactWriter`] in the form that is chosen at run time.
+//! [`JsonWriter`] as lines of JSON, and [`FactWriter`] in the form that is chosen at run time. Neither reads what the other
+//! writes. The fields of a line of JSON are facts, and their keys and the sentences are tested, not proved.
 //!
 //! An event is taken by two lines, one of which is one event behind the other. They, the counts of 128 addresses and one
 //! row of the text are all that takes memory; [`explain_rows`] and [`explain_entries`] store each hold besides, and a
@@ -32,10 +33,14 @@ mod history;
 mod hold;
 mod holds;
 mod json_counts;
+mod json_done;
 mod json_entry;
-mod json_facts;
-mod json_lists;
-mod json_rows;
+mod json_event;
+mod json_field;
+mod json_names;
+mod json_reason;
+mod json_summary;
+mod json_text;
 mod json_values;
 mod json_writer;
 pub mod laws;
@@ -46,7 +51,6 @@ mod row;
 mod row_buffer;
 mod row_writer;
 mod rows_fault;
-mod slices;
 mod station_rows;
 mod statistics;
 mod statistics_rows;

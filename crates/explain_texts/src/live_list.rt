@@ -19,7 +19,7 @@ fn station_word(line: &LineSpec, address: u8) -> &'static str {
     }
 }
 
-fn is_master(masters: &[u8], address: u8) -> bool {
+pub(crate) fn is_master(masters: &[u8], address: u8) -> bool {
     masters.iter().any(|master| *master == address)
 }
 

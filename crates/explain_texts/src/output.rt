@@ -57,8 +57,19 @@ pub(crate) fn write_fronted<W: Write, D: Display>(
         Ok(()) => {}
         Err(_) => return Err(ExplainFault::OutOfMemory),
     }
-    match write_octets(front.as_bytes(), writer) {
-        Ok(()) => write_octets(rows.as_bytes(), writer),
+    write_after(front.as_bytes(), rows.as_bytes(), writer)
+}
+
+/// Writes `front`, and then these octets.
+pub(crate) fn write_after<W: Write>(
+    front: &[u8],
+    octets: &[u8],
+    writer: &mut W,
+) -> Result<(), ExplainFault>
+    ensures { LeavesFrom front.now (W.contents writer.old) (W.contents writer.new) result }
+{
+    match write_octets(front, writer) {
+        Ok(()) => write_octets(octets, writer),
         Err(fault) => Err(fault),
     }
 }

@@ -131,8 +131,8 @@ The summary of all entries follows: which master held which slave, how often eac
 what each slave and each master did, and which addresses were polled. The last line and the exit
 status are those of 'check': status 0 if the text is legal, else 1.
 
-With --json each entry is one line of JSON, there is no summary, and the last line is the result
-of the check as JSON.
+With --json each entry is one line of JSON, made of facts for programs, and so is each hold, each
+count and the result of the check. docs/reference/json.md has the keys.
 
 With --follow a rack may still be writing the last file. Each entry is explained once its row is
 there, without a summary, until a row is wrong or rackd is stopped.
@@ -269,7 +269,7 @@ pub(crate) const REFUSED: &str = "Explain only requests that were refused";
 pub(crate) const SUMMARY: &str =
     "Explain no entries; print the summary and the result of the check";
 
-pub(crate) const JSON: &str = "Print each entry as a line of JSON; print no summary";
+pub(crate) const JSON: &str = "Print lines of JSON, for programs";
 
 pub(crate) const FOLLOW: &str = "\
 Explain each entry as its row is written to the last file; print no

@@ -99,7 +99,7 @@ unfoldable pub abilities_json : SlaveSpec → List ℕ
 abilities_json spec =
     codes "\"has_sync\":" ++ truth_json spec.sync
     ++ codes ",\"has_freeze\":" ++ truth_json spec.freeze
-    ++ codes ",\"fail_safe\":" ++ truth_json spec.failsafe
+    ++ codes ",\"failsafe\":" ++ truth_json spec.failsafe
 
 -- the state of a slave, and what follows from its parameters
 unfoldable pub state_json : Option Release → SlaveSpec → SlaveRecord → List ℕ

@@ -238,10 +238,10 @@ impl<'a> fmt::Display for Abilities<'a> {
     fn fmt<W: fmt::Write>(&self, f: &mut fmt::Formatter<W>) -> fmt::Result {
         let sync = truth_name(self.0.sync);
         let freeze = truth_name(self.0.freeze);
-        let fail_safe = truth_name(self.0.failsafe);
+        let failsafe = truth_name(self.0.failsafe);
         write!(
             f,
-            "\"has_sync\":{sync},\"has_freeze\":{freeze},\"fail_safe\":{fail_safe}"
+            "\"has_sync\":{sync},\"has_freeze\":{freeze},\"failsafe\":{failsafe}"
         )
     }
 }

@@ -3,7 +3,6 @@
 use Rattle.std.specs.Prelude.{codes, ◌≡◌, ℕ, ◌+◌, if◌then◌else◌, List, [], ◌++◌, true, false, Option, Some, None, Result, Ok, Err}
 use Rattle.dp_line.specs.declared.event.Event.{Event}
 use Rattle.dp_line.specs.World.{Description}
-use Rattle.dp_line.specs.Steps.{step}
 use Rattle.dp_text.specs.Words.{lines_of}
 use Rattle.dp_audit.specs.declared.fault.AuditFault.{AuditFault}
 use Rattle.dp_audit.specs.declared.fault.AuditFault.TheVariants as faults
@@ -16,8 +15,8 @@ use Rattle.explain_texts.specs.declared.choice.Choice.{Choice}
 use Rattle.explain_texts.specs.JsonValues.{string_json}
 use Rattle.explain_texts.specs.Behind.{follower_behind}
 use Rattle.explain_texts.specs.Followed.{FollowerView, after_row, event_taken, first_follower}
-use Rattle.explain_texts.specs.Json.{entry_json}
-use Rattle.explain_texts.specs.Known.{KnownView, outcome_reported}
+use Rattle.explain_texts.specs.Json.{entry_front}
+use Rattle.explain_texts.specs.Known.{KnownView}
 use Rattle.watch_lines.specs.declared.kept_entry.KeptEntry.{KeptEntry}
 use Rattle.watch_lines.specs.declared.watched_line.Header.{Header}
 use Rattle.watch_lines.specs.declared.watched_line.Header.TheVariants as headers
@@ -96,14 +95,9 @@ behind_head watched (Err fault) = record watched { header = headers.Wrong (fault
 abbrev pub note_json : List ℕ → List ℕ → List ℕ
 note_json file note = codes "{\"begins\":" ++ string_json file ++ codes ",\"note\":" ++ string_json note ++ codes "}\n"
 
--- the line of JSON of the entry of an event, which takes the next place of the line
-abbrev pub line_of_event : KnownView → Option Event → List ℕ
-line_of_event known None = []
-line_of_event known (Some event) =
-    entry_json known.context (step known.context.world event).world (known.context.world.count + 1) event (outcome_reported known.context.world event)
-
-abbrev pub line_of_row : FollowerView → List ℕ → List ℕ
-line_of_row follower row = line_of_event follower.known (event_taken follower row)
+-- the front of the line of JSON of the next event, which takes the next place of the line
+abbrev pub next_front : FollowerView → List ℕ
+next_front follower = entry_front (follower.known.context.world.count + 1)
 
 -- an entry with this number and this line of JSON is stored
 pub record IsKept (number : ℕ) (text : List ℕ) (old new : KeptView) : Type 0 where
@@ -121,14 +115,14 @@ pub record IsNoted (number : ℕ) (file note : List ℕ) (old new : KeptView) : 
   pub notable : entry.is_notable ≡ true
   pub kept : new ≡ entry_kept entry old
 
--- the entry of a right row is stored; nothing of another row
+-- the entry of a right row is stored, by a line with this front; nothing of another row
 abbrev pub KeepsEvent : Option Event → ℕ → List ℕ → KeptView → KeptView → Type 0
-KeepsEvent None number text old new = new ≡ old
-KeepsEvent (Some event) number text old new = IsKept number text old new
+KeepsEvent None number front old new = new ≡ old
+KeepsEvent (Some event) number front old new = (others : List ℕ) × IsKept number (front ++ others) old new
 
 abbrev pub KeepsRow : WatchedView → List ℕ → ℕ → KeptView → Type 0
 KeepsRow watched row number new =
-    KeepsEvent (event_behind watched row watched.header) number (line_of_row watched.follower row) watched.kept new
+    KeepsEvent (event_behind watched row watched.header) number (next_front watched.follower) watched.kept new
 
 -- the row is taken under this number: no octet of a row has begun then
 pub record TakesRow (watched : WatchedView) (row : List ℕ) (number : ℕ) (new : WatchedView) : Type 0 where

@@ -7,7 +7,7 @@ ghost use Rattle.dp_text.specs.Words.{lines_of};
 ghost use Rattle.audit_heads.specs.HeadLines.{line_read};
 ghost use Rattle.explain_texts.specs.Followed.{after_row, event_taken, first_follower};
 ghost use Rattle.watch_lines.specs.Kept.{nothing_kept};
-ghost use Rattle.watch_lines.specs.Watched.{behind_head, follower_opened, header_judged, line_of_row, note_json, text_verdict_by, text_verdict_of, text_begun, IsKept, IsNoted, KeepsEvent, KeepsNote, TakesRow};
+ghost use Rattle.watch_lines.specs.Watched.{behind_head, follower_opened, header_judged, next_front, note_json, text_verdict_by, text_verdict_of, text_begun, IsKept, IsNoted, KeepsEvent, KeepsNote, TakesRow};
 
 use crate::kept_entries::KeptEntries;
 use crate::kept_entry::{KeptEntry, is_notable};
@@ -243,7 +243,7 @@ impl<'a> WatchedLine<'a> {
     /// Takes a row behind the header.
     fn take_entry(&mut self, row: &[u8], number: u64) -> Result<(), AllocError>
         ensures follower { OnOk result (self.new ≡ record self.old { follower = after_row self.old.follower row.now; kept = self.new.kept }) }
-        ensures kept { OnOk result (KeepsEvent (event_taken self.old.follower row.now) number (line_of_row self.old.follower row.now) self.old.kept self.new.kept) }
+        ensures kept { OnOk result (KeepsEvent (event_taken self.old.follower row.now) number (next_front self.old.follower) self.old.kept self.new.kept) }
     {
         let mut entry = JsonWriter::new(self.alloc, Vec::new(self.alloc));
         match self.follower.take_row(row, &EVERY_ENTRY, &mut entry) {

@@ -196,17 +196,21 @@ function agoOf(time) {
 
 // ---- Entries
 
-// Returns the service of a request, or the event of an operator, without frame, function and access points.
-const serviceOf = kind => kind.slice(kind.lastIndexOf("  ") + 1).trim()
-  .replace(/^SD\d /, "").replace(/( \(\d+\))?( from \d+)?$/, "");
+// Returns the service of a request, or the event in words, without frame and function.
+const serviceOf = ({ service, words }) => service
+  ?? words.slice(words.lastIndexOf("  ") + 1).trim().replace(/^SD\d /, "").replace(/ from \d+$/, "");
 
-const isRefusing = answer => answer.sentence.startsWith("refused");
+const isRefusing = answer => answer.outcome === "refused";
+
+// The names of faults by the kind of the reason.
+const WRONG = { WrongParameters: "wrong parameters", WrongConfiguration: "wrong configuration" };
 
 // Returns the name of a fault that is no refusal.
 function faultName(entry) {
-  const wrong = /^wrong (parameters|configuration)/.exec(entry.sentence);
-  if (wrong !== null) return wrong[0];
-  if (entry.from === "operator") return entry.kind === "halt" ? "halt" : "watchdog ran out";
+  if (entry.from === "operator") return entry.event.kind === "halt" ? "halt" : "watchdog ran out";
+  const wrong = WRONG[entry.reason?.kind];
+  if (wrong !== undefined) return wrong;
+  if (entry.surprising) return "surprising";
   if (entry.rule === "Repeat") return "Repeat (other)";
   if (entry.rule !== null && entry.rule !== "Done") return entry.rule;
   const isSelected = entry.slaves.some(answer => answer.rule !== "NotSelected");
@@ -234,7 +238,7 @@ function resultOf(entry) {
 // Returns whether an entry is a Data_Exchange, an input or a tick that did nothing else.
 function isRoutine(entry) {
   if (entry.fault || entry.changes.length > 0) return false;
-  if (entry.from === "operator") return /^(inputs |\d+ units? of time)/.test(entry.kind);
+  if (entry.from === "operator") return entry.event.kind === "in" || entry.event.kind === "tick";
   return entry.service === "Data_Exchange" && entry.rule === "Done";
 }
 
@@ -247,14 +251,15 @@ const concerns = (entry, slave) => entry.to === "slave" && entry.address === sla
 function readEntry({ number, entry }, text, at) {
   if (entry.note !== undefined)
     return { note: entry.note, number, text, at, slaves: [], changes: [], searched: entry.note.toLowerCase() };
-  const target = entry.address === null ? entry.to : `${entry.to} ${entry.address}`;
+  const { event, answer } = entry, to = entry.to.replace("_", " ");
+  const target = entry.address === null ? to : `${to} ${entry.address}`;
   const sender = entry.from === "master" ? `master ${entry.master}` : entry.from;
   const who = target === "nobody" ? sender : `${sender} → ${target}`;
-  const read = { ...entry, number, text, at, target, who, service: serviceOf(entry.kind) };
+  const read = { ...entry, number, text, at, target, who, rule: answer.rule, service: serviceOf(event) };
   read.result = resultOf(read);
   read.routine = isRoutine(read);
-  read.searched = [read.who, read.kind, read.rule, read.result, read.octets, ...Object.values(read.decoded ?? {}),
-    read.reply ?? []].flat().join("\n").toLowerCase();
+  read.searched = [read.who, event.words, read.rule, read.result, event.octets, event.decoded?.words, answer.words]
+    .join("\n").toLowerCase();
   return read;
 }
 
@@ -621,9 +626,11 @@ const explainedGroup = record =>
   record.groups.get(state.group) ?? newestGroup(record, true) ?? newestGroup(record, false);
 
 const entryName = entry => `${entry.place} of ${entry.text ?? "an earlier text"}`;
-const changeText = change => `slave ${change.slave}: ${change.from} → ${change.to}`;
-const replyOf = entry => entry.reply?.join("; ") ?? (entry.from === "operator" ? "" : "none (silence)");
-const decodedRows = entry => Object.entries(entry.decoded ?? {}).map(([name, parts]) => [name, parts.join("; ")]);
+const conditionText = ({ state, holder }) => `${state}, held by ${holder === null ? "nobody" : `master ${holder}`}`;
+const changeText = change =>
+  `slave ${change.slave}: ${conditionText(change.before)} → ${conditionText(change.after)}`;
+const replyOf = entry => entry.answer.words ?? (entry.from === "operator" ? "" : "none (silence)");
+const decodedRows = ({ event }) => event.decoded ? [[event.decoded.as, event.decoded.words]] : [];
 
 // Returns rows about a slave before an entry: the last entry that changed it, and a fault after that.
 function historyRows(record, entry, slave) {
@@ -767,7 +774,7 @@ function modesCell(slave) {
   const flags = flagsOf([[slave.sync, "Sync", "mild"], [slave.freeze, "Freeze", "mild"],
     [slave.cleared, "cleared", "mild"], [groups.length > 0, plural("group", groups), ""],
     ...slave.busy.map(point => [true, `${POINTS.get(point) ?? `point ${point}`} busy`, "bad"])]);
-  const supported = [[slave.has_sync, "has Sync"], [slave.has_freeze, "has Freeze"], [slave.fail_safe, "fail-safe"],
+  const supported = [[slave.has_sync, "has Sync"], [slave.has_freeze, "has Freeze"], [slave.failsafe, "fail-safe"],
     [true, `min TSDR ${slave.min_tsdr}`]].filter(([isSet]) => isSet).map(([, word]) => word);
   return make("td", {}, flags, make("div", { class: "soft" }, supported.join(", ")));
 }
@@ -826,16 +833,17 @@ function entryNode(entry) {
   const kind = entry.refused ? "refused" : entry.fault ? "fault" : entry.changes.length > 0 ? "changed" : null;
   return make("details", { class: kind }, make("summary", {},
     make("span", { class: "place" }, String(entry.place)), make("span", {}, entry.who),
-    make("span", { class: "service", title: entry.kind }, entry.service),
+    make("span", { class: "service", title: entry.event.words }, entry.service),
     make("span", { class: "result" }, entry.result)));
 }
 
 // Returns the fields of an entry as rows of a name and a text.
 function fieldsOf(entry) {
-  const points = [["DSAP", entry.dsap], ["SSAP", entry.ssap]].filter(([, point]) => point !== null);
+  const { event } = entry, octets = entry.from === "master" ? pairsOf(event.octets).join(" ") || "none" : "";
+  const points = [["DSAP", event.dsap ?? null], ["SSAP", event.ssap ?? null]].filter(([, point]) => point !== null);
   return [["entry", entryName(entry)], ["time", entry.time === null ? "" : milliseconds(entry.time)],
-    ["kind", entry.kind], ["points", points.map(([name, point]) => `${name} ${point}`).join(", ")],
-    ["octets", entry.octets === null ? "" : pairsOf(entry.octets).join(" ") || "none"],
+    ["kind", event.words], ["points", points.map(([name, point]) => `${name} ${point}`).join(", ")],
+    ["octets", octets],
     ...decodedRows(entry), ["rule", entry.rule ?? ""], ["refused", entry.refused ? "yes" : "no"],
     ["fault", entry.fault ? "yes" : "no"], ["sentence", entry.sentence],
     ...entry.slaves.map(answer => [`slave ${answer.slave}`, `${answer.rule}. ${answer.sentence}`]),

@@ -1,7 +1,7 @@
 use Rattle.std.proofs.Common.{filter, map, rules}
 use Rattle.explain_texts.specs.JsonCounts.{was_counted, way_json, ways_json}
 use Rattle.explain_texts.specs.Tallies.{all_ways}
-use Rattle.explain_texts.proofs.JsonFields.{bracketed}
+use Rattle.explain_texts.proofs.PlainValues.{bracketed}
 use Rattle.explain_texts.proofs.json_counts.WaysDisplay.fmt.Goals as goal
 
 pub returns-clause-writes : goal.returns-clause-writes

@@ -1,6 +1,6 @@
 use Rattle.std.proofs.Common.{sym, ◌∙◌}
 use Rattle.std.proofs.Output.{has_written_of_eq}
-use Rattle.explain_texts.proofs.JsonFields.{plain_inside}
+use Rattle.explain_texts.proofs.PlainValues.{plain_inside}
 use Rattle.explain_texts.proofs.json_values.InsideDisplay.fmt.Goals as goal
 
 pub returns-in-Ok-clause-writes : goal.returns-in-Ok-clause-writes

@@ -7,5 +7,5 @@ pub returns-clause-writes : goal.returns-clause-writes
 unfolding abilities_json
 returns-clause-writes g c = λ plain ok.
     has_written_of_eq _ _ _ _ _
-    (rw (c.truth_name-sync.ensures, c.truth_name-freeze.ensures, c.truth_name-fail_safe.ensures) (simp append_assoc))
+    (rw (c.truth_name-sync.ensures, c.truth_name-freeze.ensures, c.truth_name-failsafe.ensures) (simp append_assoc))
     (c.write.ensures.writes plain ok)
