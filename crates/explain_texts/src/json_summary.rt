@@ -128,13 +128,13 @@ impl JsonText {
             number("diagnoses", counts.count_of(Item::Diagnosis)),
             number("retries", counts.count_of(Item::Retry)),
         ]);
-        self.refusals(counts);
-        self.releases(counts);
+        self.refusal_counts(counts);
+        self.release_counts(counts);
         self.one(number("held", counts.held));
         self.end_line();
     }
 
-    fn refusals(&mut self, counts: &StationCounts) {
+    fn refusal_counts(&mut self, counts: &StationCounts) {
         self.open("refused");
         for rule in &REFUSALS {
             self.counted(rule.name(), counts.count_of(Item::Refused(*rule)));
@@ -142,7 +142,7 @@ impl JsonText {
         self.close();
     }
 
-    fn releases(&mut self, counts: &StationCounts) {
+    fn release_counts(&mut self, counts: &StationCounts) {
         self.open("released");
         for ending in &ENDINGS {
             self.counted(
