@@ -39,6 +39,7 @@ A rack is the program `rackd serve`, which ends with the `with` statement or wit
         journal.explained.holds                         # also counts, stations, polls and verdict
         print(journal.explain(faults=True, slave=5))    # also first, last, master, refused, summary
         journal.judge(master=1)                         # what this master did that the standard rules out
+        journal.time_of(3)                              # when entry 3 was recorded by the clock, as 12:30:01.207
         line.why(3).sentence                            # why entry 3 has its outcome; in process also its facts
 
         operator.halt()                                 # permanent; the slaves that were released
@@ -62,11 +63,12 @@ from .operator import Operator, Show, State
 from .port import Port
 from .rack import SAMPLE, Line, Rack
 from .reasons import Facts, Reason
+from .times import EntryTime, EntryTimes
 
 __all__ = [
     "UE", "RR", "RS", "Answer", "BadEnd", "BadFrame", "BadHead", "Cable", "Change", "Condition", "Decoded",
-    "Diagnosis", "EmbeddedLine", "EmbeddedRack", "Entry", "Event", "Explained", "Facts", "Finding", "Frame", "Halted",
-    "Hold", "Journal", "Line", "Long", "Master", "NoProgram", "NoReply", "NoStart", "NoStation", "NotACommand",
+    "Diagnosis", "EmbeddedLine", "EmbeddedRack", "Entry", "EntryTime", "EntryTimes", "Event", "Explained", "Facts",
+    "Finding", "Frame", "Halted", "Hold", "Journal", "Line", "Long", "Master", "NoProgram", "NoReply", "NoStart", "NoStation", "NotACommand",
     "NotAccepted", "NotLegal", "Operator", "OperatorRefused", "Part", "Poll", "Port", "Rack", "RackError",
     "RackFault", "Reason", "Refused", "Release", "RunningCable", "SAMPLE", "SessionEnded", "Short", "Show",
     "SlaveRefused", "State", "StationCount", "TooLong", "TooMany", "UnknownPoint", "Verdict", "WayCount", "Why",

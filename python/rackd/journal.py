@@ -12,6 +12,7 @@ from .explained import Entry, Explained, explained_of
 from .faults import RackError, RackFault
 from .program import rows_of, run
 from .reasons import Reason
+from .times import EntryTime, EntryTimes
 
 
 @dataclass(frozen=True)
@@ -54,9 +55,13 @@ class Journal:
     `explained` also has the holds and what was counted.
     """
 
-    def __init__(self, program: str, rack: bytes, text: bytes) -> None:
-        """Reads the audit text of a line of the rack file. A last row that is not whole is left out."""
+    def __init__(self, program: str, rack: bytes, text: bytes, times: Optional[EntryTimes] = None) -> None:
+        """Reads the audit text of a line of the rack file. A last row that is not whole is left out.
+
+        `times` are those of its entries by the clock, if there are any.
+        """
         self._program, self._rack = program, rack
+        self._times = times or EntryTimes()
         self._text = text[:text.rfind(b"\n") + 1]
         self.explained: Explained = explained_of(self._explained("--json"))
         self.entries: Tuple[Entry, ...] = self.explained.entries
@@ -91,6 +96,10 @@ class Journal:
             if entry.place == place:
                 return Reason(entry.sentence)
         raise RackError(f"the journal has no entry {place}")
+
+    def time_of(self, place: int) -> Optional[EntryTime]:
+        """Returns when the entry at a place was recorded by the clock, or None if that is not known (`EntryTimes.time_of`)."""
+        return self._times.time_of(place)
 
     def judge(self, *, master: Optional[int] = None, rules: Sequence[str] = (),
               retries: Optional[int] = None) -> List[Finding]:

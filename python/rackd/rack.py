@@ -22,6 +22,7 @@ from .port import Port
 from .program import find_program, rows_of, run
 from .reasons import Reason
 from .temporary import GuardedFolder, descriptors_of
+from .times import times_beside
 
 # Seconds that a rack may take to be ready, to end, and to be seen as ended once a connection has ended.
 READY_TIME, END_TIME, NOTICE_TIME = 10.0, 10.0, 0.5
@@ -96,13 +97,15 @@ class Line:
     def journal(self) -> Journal:
         """Returns the journal of this line as it is: with each event whose answer a client has got.
 
-        If the rack deletes old parts of it (`--keep`), it begins with the oldest entry that is there.
+        If the rack deletes old parts of it (`--keep`), it begins with the oldest entry that is there. The times of its last
+        entries may be missing, since the rack writes them every 100 ms.
         """
         parts = self._parts()
         # a later part whose head may not be whole yet
         if len(parts) > 1 and not re.search(rb"^[0-9]", parts[-1], re.MULTILINE):
             parts.pop()
-        return Journal(self._rack.program, self._rack.text, b"".join(parts))
+        times = times_beside(self.number, self.files())
+        return Journal(self._rack.program, self._rack.text, b"".join(parts), times)
 
     def why(self, place: int) -> Reason:
         """Returns why the entry at a place of the journal has its outcome. Raises RackError if there is no such entry."""

@@ -11,8 +11,9 @@ from support.telegrams import fresh_diagnosis, slave_diag
 
 TOO_FEW = re.compile(r"rackd: cannot (make|listen on|read) .+\n  too few file descriptors; 'ulimit -n' shows and raises their number\n")
 # Descriptors with which the program serves: the three of each program, the two listeners, and two for each connection that may
-# be there at one time (of the worker and of sixteen operators) and for the line (its file, and a connection that waits).
-ENOUGH = 3 + 2 + 2 * (1 + 16 + 1)
+# be there at one time (of the worker and of sixteen operators), and three for the line (its two files, and a connection that
+# waits).
+ENOUGH = 3 + 2 + 2 * (1 + 16) + 3
 
 
 def is_served(server, path):

@@ -9,7 +9,7 @@ import pytest
 from audit.dialogue import line_of
 from audit.endless import (MASTERS, MEGABYTE, SMALL_PARTS, last_place, long_telegrams, part_number, part_numbers, part_paths,
                            rack_of_sixteen, resident, serve_parts, tokens, wait_for_newest, wait_for_part)
-from support.audit_texts import names, part_name, write_files
+from support.audit_texts import names, part_name, times_name, write_files
 from support.clients import exchange, open_master, wait_for
 from support.loads import SilentLoad, finish, start
 from support.racks import rack
@@ -36,11 +36,15 @@ def test_newest_stay(serve, tmp_path, assert_legal):
     load.start()
     load.finish()
     wait_for(lambda: len(part_numbers(folder, 8)) == 2)
+    # the file of times of a part is deleted behind it
+    wait_for(lambda: 0 < len(list(folder.glob("*.times"))) <= 2)
     server.send_signal(signal.SIGTERM)
     server.wait()
     last = part_numbers(folder, 8)[-1]
     assert last >= 6
-    assert names(folder) == sorted([*others, part_name(last - 1, number=8), part_name(last, number=8)])
+    stays = [part_name(last - 1, number=8), part_name(last, number=8)]
+    assert names(folder) == sorted([*others, *stays])
+    assert {path.name for path in folder.glob("*.times")} <= {times_name(name) for name in stays}
     assert {name: (folder / name).read_bytes() for name in others} == others
     paths = part_paths(folder, 8)
     assert_legal(server.rack, *paths, entries=last_place(paths[-1].read_bytes()))
@@ -146,8 +150,10 @@ def test_end_after_deletions(serve, tmp_path, assert_legal):
     # the last deletions are held up one after another: the program is there until each of them is done
     for count in range(1, last - 1):
         assert_legal(server.rack, *part_paths(folder), entries=load.sent)
-        deletions.release(count)
+        # the part, and then its file of times
+        deletions.release(2 * count - 1)
         wait_for(lambda: len(part_numbers(folder)) == last - count or server.process.poll() is not None)
+        deletions.release(2 * count)
     done = server.wait()
     assert (done.status, done.output) == (0, "")
     assert part_numbers(folder) == [last - 1, last]

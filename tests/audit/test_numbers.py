@@ -31,7 +31,7 @@ def text_numbers(folder):
 
 def stamps(folder):
     """Returns what shows that a file of a folder was changed or replaced: its size, its time and its number."""
-    found = {path.name: path.lstat() for path in folder.iterdir()}
+    found = {path.name: path.lstat() for path in folder.iterdir() if path.suffix != ".times"}
     return {name: (state.st_size, state.st_mtime_ns, state.st_ino) for name, state in found.items()}
 
 

@@ -73,7 +73,7 @@ def test_session_ends_in_a_flood(serve, run, tmp_path):
         asking.join(60)
     assert moments, "the session doesn't end"
     assert server.wait().output == ""
-    checked = run("check", server.rack, *sorted(audit.iterdir()))
+    checked = run("check", server.rack, *sorted(audit.glob("*.audit")))
     assert checked.status == 0
     assert 1000 < sum(got) // reply <= int(checked.output.split()[1])
     late = moments[0] - begun

@@ -12,19 +12,34 @@ def part_name(part, line=1, number=1):
     return f"line-{line}-{number}.{part:06}.audit"
 
 
+def times_name(name):
+    """Returns the name of the file of times beside the file of an audit text with this name."""
+    return name[:-len(".audit")] + ".times"
+
+
 def header(line=1, version=2):
     """Returns the first row of an audit text."""
     return f"rack-audit {version} line {line}\n".encode()
 
 
 def contents(folder):
-    """Returns the files of a folder by their names."""
-    return {path.name: path.read_bytes() for path in folder.iterdir()}
+    """Returns the files of a folder by their names, without files of times."""
+    return {path.name: path.read_bytes() for path in folder.iterdir() if path.suffix != ".times"}
 
 
 def names(folder):
-    """Returns the names in a folder, sorted."""
-    return sorted(path.name for path in folder.iterdir())
+    """Returns the names in a folder, sorted, without those of files of times."""
+    return sorted(path.name for path in folder.iterdir() if path.suffix != ".times")
+
+
+def time_rows(path, line=1):
+    """Returns the places and the milliseconds of the whole rows of a file of times; none if it is not there yet."""
+    if not path.exists():
+        return []
+    head, *rows = whole_rows(path.read_bytes()).decode("ascii").splitlines() or [""]
+    assert head in ("", f"rack-times 1 line {line}")
+    assert all(re.fullmatch("[1-9][0-9]* [1-9][0-9]*", row) for row in rows)
+    return [tuple(int(number) for number in row.split(" ")) for row in rows]
 
 
 def write_files(folder, texts):

@@ -5,3 +5,5 @@ pub mod Parts
 pub mod FileFaults
 pub mod TextNumbers
 pub mod ReadNames
+pub mod TimesPaths
+pub mod LineTimes

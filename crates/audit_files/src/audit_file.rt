@@ -17,6 +17,7 @@ use crate::file_fault::FileFault;
 use crate::file_host::FileHost;
 use crate::old_parts::OldParts;
 use crate::text_number::{is_alone, names_in, number_above};
+use crate::times_writer::TimesWriter;
 use audit_trail::{Naming, Tail, Trail, TrailBreak, TrailFault};
 use dp_shared::Line;
 use serve_log::Notes;
@@ -91,7 +92,8 @@ pub fn make_folder<'a>(files: &impl Files, folder: &'a str) -> Result<(), FileFa
 /// Begins the audit text of a line in a new file of the folder, and writes its header. The number of the text is above that of
 /// each text of the line in the folder. No existing file is changed. The header is the first that is written to the file.
 ///
-/// `number` is the number of the line. `parts` is `None` if the text has one file, and `old_parts` is `None` if no part is deleted.
+/// `number` is the number of the line. `parts` is `None` if the text has one file, `old_parts` is `None` if no part is deleted, and
+/// `times` is `None` if the times of entries are not written.
 ///
 /// Returns `CannotMake` with the path of the folder if it cannot be listed, or with the path of the file that cannot be created
 /// or does not take the header; `CannotMake` with `NoNumber` if a text of the line has the highest number; or `OutOfMemory`.
@@ -100,6 +102,7 @@ pub fn begin_text<'a, 's, H: FileHost>(
     notes: &'s Notes<'s, H>,
     alloc: Global,
     old_parts: Option<&'s OldParts<'s, H>>,
+    times: Option<&'s TimesWriter<'s, H>>,
     folder: &'a str,
     parts: Option<PartOptions>,
     line: &'s Line,
@@ -109,6 +112,10 @@ pub fn begin_text<'a, 's, H: FileHost>(
     ensures empty { IfOk result (λ file. IsEmptyText file.trail.opened.value.earlier.bytes (option_map (λ file. file.written.bytes) file.trail.opened.value.file)) }
     ensures fault { IfErr result (IsRecordingFault (Some folder.entry) (number ∷ [])) }
 {
+    let times = match times {
+        Some(times) => times.of_line(number),
+        None => None,
+    };
     let lowest = match lowest_number(host, alloc, folder, number) {
         Ok(lowest) => lowest,
         Err(fault) => return Err(fault),
@@ -128,7 +135,7 @@ pub fn begin_text<'a, 's, H: FileHost>(
             Ok(None) => {}
             Ok(Some(file)) => {
                 let writer = AuditWriter::new(
-                    host, notes, alloc, old_parts, folder, name, parts, file,
+                    host, notes, alloc, old_parts, times, folder, name, parts, file,
                 );
                 let (text, path) = (name.path_in(folder), first.path_in(folder));
                 return begin_trail(host, alloc, line, writer, text, path);

@@ -1,6 +1,7 @@
 //! Writing an audit text to its files.
 
-ghost use Rattle.std.specs.Prelude.{◌≡◌, ◌++◌, None, Some, IfOk, MatchOption, option_map};
+ghost use Rattle.std.specs.Prelude.{◌≡◌, ◌++◌, None, Some, IfOk, IfSome, MatchOption, option_map};
+ghost use Rattle.entry_times.specs.TimeRows.{IsNumber};
 ghost use Rattle.system_errors.specs.SystemErrors.{cause_of_error};
 ghost use Rattle.audit_files.specs.AuditPaths.{audit_path_text};
 ghost use Rattle.audit_files.specs.Parts.{HasBegun, IsEmptyText, after, bytes_of, counted, first_part, is_due, is_due_in, is_full};
@@ -8,10 +9,12 @@ ghost use Rattle.audit_files.specs.Parts.{HasBegun, IsEmptyText, after, bytes_of
 use crate::audit_name::AuditName;
 use crate::audit_path::AuditPath;
 use crate::file_host::NewFiles;
+use crate::line_times::{LineTimes, Recorded};
 use crate::old_parts::OldParts;
 use crate::part_file::PartFile;
 use crate::written_bytes::WrittenBytes;
 use audit_trail::{BegunPart, WriteParts};
+use entry_times::TimeRow;
 use log::Log;
 use serve_log::Notes;
 use serve_options::PartOptions;
@@ -23,7 +26,7 @@ use std::time::Clock;
 use system_errors::Cause;
 
 /// The most characters of a name in a folder, with the `/` before it: `/line-255-4294967295.4294967295.audit`.
-const LONGEST_NAME: usize = 37;
+pub(crate) const LONGEST_NAME: usize = 37;
 
 /// The error with which the file of a part could not be created.
 #[derive(Clone, Copy, Debug)]
@@ -139,6 +142,8 @@ pub struct AuditWriter<'a, 's, H> {
     refused: Option<CreateFault>,
     /// The old parts, or `None` if no part is deleted.
     old_parts: Option<&'s OldParts<'s, H>>,
+    /// The times of the line, or `None` if they are not written.
+    times: Option<&'s LineTimes>,
 }
 
 impl<'a, 's, H: NewFiles + Wait + Log + Clock> AuditWriter<'a, 's, H> {
@@ -149,6 +154,7 @@ impl<'a, 's, H: NewFiles + Wait + Log + Clock> AuditWriter<'a, 's, H> {
         notes: &'s Notes<'s, H>,
         alloc: Global,
         old_parts: Option<&'s OldParts<'s, H>>,
+        times: Option<&'s LineTimes>,
         folder: &'a str,
         name: AuditName,
         parts: Option<PartOptions>,
@@ -170,6 +176,7 @@ impl<'a, 's, H: NewFiles + Wait + Log + Clock> AuditWriter<'a, 's, H> {
             earlier: WrittenBytes::new(),
             refused: None,
             old_parts,
+            times,
         }
     }
 
@@ -272,11 +279,39 @@ impl<H: NewFiles + Wait + Log + Clock> WriteParts for AuditWriter<'_, '_, H> {
         }
     }
 
+    /// Notes the time of the entry, if the times of the line are written.
+    fn end_row(&mut self, place: u32) {
+        let (Some(times), Some(milliseconds)) = (self.times, milliseconds_now(self.host)) else {
+            return;
+        };
+        let recorded = Recorded {
+            name: self.name(),
+            row: TimeRow {
+                place,
+                milliseconds,
+            },
+        };
+        times.note(self.host, recorded);
+    }
+
     /// Has the oldest part deleted if there is one more than those that are to stay.
     fn end_head(&mut self, _part: BegunPart) {
         if let Some(old_parts) = self.old_parts {
             old_parts.put_oldest(self.name());
         }
+    }
+}
+
+/// Returns the milliseconds since 1970, from 1, or `None` if the clock cannot be read or is before that.
+fn milliseconds_now(clock: &impl Clock) -> Option<u64>
+    ensures { IfSome result (IsNumber 64) }
+{
+    let since = clock.since_1970().ok()?;
+    let milliseconds = u64::try_from(since.as_millis()).ok()?;
+    if milliseconds > 0 {
+        Some(milliseconds)
+    } else {
+        None
     }
 }
 

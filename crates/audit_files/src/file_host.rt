@@ -21,6 +21,9 @@ pub trait NewFiles {
 
     /// Removes the file at a path. Fails with `NotFound` if there is none.
     fn remove_file(&self, path: &str) -> Result<()>;
+
+    /// Returns whether there is a file at a path.
+    fn has_file(&self, path: &str) -> bool;
 }
 
 impl<F: Files<File = File>> NewFiles for F {
@@ -32,6 +35,10 @@ impl<F: Files<File = File>> NewFiles for F {
 
     fn remove_file(&self, path: &str) -> Result<()> {
         fs::remove_file(self, path)
+    }
+
+    fn has_file(&self, path: &str) -> bool {
+        fs::metadata(self, path).is_ok()
     }
 }
 

@@ -4,9 +4,9 @@
 //! only puts an old part into a queue, and a thread of the server deletes it.
 
 use crate::audit_name::AuditName;
-use crate::audit_path::AuditPath;
 use crate::audit_writer::text_of_path;
 use crate::file_host::NewFiles;
+use crate::times_path::{TimesPath, text_of_times_path};
 use crossbeam_channel::{Receiver, Sender, bounded};
 use log::Log;
 use serve_log::Notes;
@@ -105,17 +105,32 @@ impl<'s, H: NewFiles + Wait + Log + Clock> OldParts<'s, H> {
         }
     }
 
-    /// Deletes a part. Logs the cause if it cannot be deleted.
+    /// Deletes a part, and then its file of times, if there is one. Logs the cause if one of them cannot be deleted.
     fn delete(&self, part: AuditName) {
         let path = part.path_in(self.folder.as_str());
-        if let Err(error) = self.remove(path) {
+        if let Err(error) = self.remove(text_of_path(self.alloc, path)) {
             self.notes.cannot_delete(self.host, part.line, path, error);
+        }
+        self.delete_times(part);
+    }
+
+    /// Deletes the file of times of a part, if there is one. Logs the cause if it cannot be deleted.
+    fn delete_times(&self, part: AuditName) {
+        let path = TimesPath {
+            folder: self.folder.as_str(),
+            name: part,
+        };
+        if let Err(error) = self.remove(text_of_times_path(self.alloc, path)) {
+            match error.kind() {
+                ErrorKind::NotFound => {}
+                _ => self.notes.cannot_delete(self.host, part.line, path, error),
+            }
         }
     }
 
-    /// Removes the file at a path.
-    fn remove(&self, path: AuditPath<'_>) -> io::Result<()> {
-        match text_of_path(self.alloc, path) {
+    /// Removes the file at a path, if there was memory for the text of the path.
+    fn remove(&self, path: Result<String, AllocError>) -> io::Result<()> {
+        match path {
             Ok(path) => self.host.remove_file(path.as_str()),
             Err(_) => Err(Error::from(ErrorKind::OutOfMemory)),
         }

@@ -17,7 +17,6 @@ use dp_audit::{Record, WriteFault};
 use dp_shared::{Line, Pass};
 use dp_telegram::GLOBAL_ADDRESS;
 use dp_text::{Text, write_whole};
-use std::io::Write;
 use std::sync::Wait;
 
 /// The result of a look at the next place.
@@ -38,7 +37,7 @@ pub(crate) enum Next {
 
 /// Looks at a place with a pass of the line, and writes the text line of its entry, if there is one. `record`
 /// and `text` are buffers.
-pub(crate) fn write_next<T: Wait, W: Write>(
+pub(crate) fn write_next<T: Wait, W: WriteParts>(
     rt: &T,
     line: &Line,
     pass: &mut Pass,
@@ -60,11 +59,23 @@ pub(crate) fn write_next<T: Wait, W: Write>(
             Next::Gone
         };
     }
-    match write_whole(writer, text.as_bytes()) {
+    match write_row(writer, text.as_bytes(), place) {
         Ok(()) if count > place => Next::Row,
         Ok(()) => Next::LastRow,
         Err(_) => Next::Cut,
     }
+}
+
+/// Writes the text line of the entry at this place.
+fn write_row<W: WriteParts>(writer: &mut W, row: &[u8], place: u32) -> Result<(), WriteFault>
+    ensures ok { OnOk result (Appends (W.contents writer.old) (W.contents writer.new) row.now) }
+    ensures err { OnErr result (WritesPrefix (W.contents writer.old) (W.contents writer.new) row.now) }
+{
+    let Ok(()) = write_whole(writer, row) else {
+        return Err(WriteFault);
+    };
+    writer.end_row(place);
+    Ok(())
 }
 
 /// Looks at a line of which all possible places are seen. The look reads no entry.

@@ -41,6 +41,11 @@ pub trait WriteParts: Write {
         ensures bytes { Self.contents self.new ≡ Self.contents self.old }
         ensures begins { OnOk result (begins self.old self.new) };
 
+    /// Is called after the text line of the entry at this place is written whole. Nothing is written.
+    fn end_row(&mut self, _place: u32)
+        ensures { Self.contents self.new ≡ Self.contents self.old }
+    {}
+
     /// Is called after the head of the part that began last is written whole. Nothing is written.
     fn end_head(&mut self, _part: BegunPart)
         ensures { Self.contents self.new ≡ Self.contents self.old }

@@ -100,7 +100,8 @@ fn is_twice(lines: &[ServedLine], port: u16) -> bool {
 /// Checks that there are enough file descriptors, by duplicating a listener and closing the duplicates.
 ///
 /// Each worker and 16 operators of each line may have a connection at one time, which takes two descriptors. Each line may also
-/// have a file and one connection that waits to be accepted, for which the system reserves a descriptor.
+/// have two files, of its audit text and of its times, and one connection that waits to be accepted, for which the system reserves
+/// a descriptor.
 ///
 /// Returns `CannotListen` with the first port if there are too few descriptors, or `OutOfMemory`.
 pub fn check_descriptors<'a>(
@@ -119,7 +120,7 @@ pub fn check_descriptors<'a>(
     };
     let connections = usize::from(workers) + MOST_OPERATORS * lines.len();
     let mut held = Vec::new(alloc);
-    for _ in 0..2 * (connections + lines.len()) {
+    for _ in 0..2 * connections + 3 * lines.len() {
         let descriptor = match here.masters.try_clone() {
             Ok(descriptor) => descriptor,
             Err(error) => return Err(ServeFault::CannotListen(

@@ -165,6 +165,19 @@ impl<'a, L: Log + Clock> Notes<'a, L> {
         warn!(self.log; target: "rackd", "{time} line {line}: cannot delete {file}: {error}");
     }
 
+    /// Reports that a file with the times of the entries of a line cannot be written. Nothing more is written to it.
+    pub fn cannot_write_times<W: Wait>(
+        &self,
+        rt: &W,
+        line: u8,
+        file: impl Display + Drop,
+        error: Error,
+    ) {
+        let _one_row_at_a_time = self.noted.lock(rt);
+        let time = TimeOfDay::now(self.log);
+        warn!(self.log; target: "rackd", "{time} line {line}: cannot write times to {file}: {error}");
+    }
+
     /// Reports that the program was delayed, so that these milliseconds don't pass on a line. There is at most one row a second
     /// for all lines, and none for a line that is halted.
     pub fn discarded<W: Wait>(&self, rt: &W, line: u8, milliseconds: u64) {

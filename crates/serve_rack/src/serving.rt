@@ -16,7 +16,7 @@ ghost use Rattle.serve_sessions.specs.Ready.{ready};
 
 use crate::serve::{Served, sessions_of};
 use crate::threads::{Sessions, accept_and_serve, can_start, end_unserved};
-use audit_files::{IncompleteFile, OldParts};
+use audit_files::{IncompleteFile, OldParts, TimesWriter};
 use audit_trail::{Naming, NoTrail, RecordEntries};
 use crossbeam_channel::bounded;
 use dp_shared::ReturnedPass;
@@ -117,6 +117,9 @@ pub(crate) fn serve_connections<'a, 's, H: Host + Sync, W: Write>(
     let Ok(old_parts) = old_parts_of(rt, notes, alloc, options) else {
         return Err(ServeFault::OutOfMemory);
     };
+    let Ok(times) = times_of(rt, notes, alloc, options, listening.served.lines) else {
+        return Err(ServeFault::OutOfMemory);
+    };
     let context = ServerContext {
         sockets: SocketContext {
             rt,
@@ -127,6 +130,7 @@ pub(crate) fn serve_connections<'a, 's, H: Host + Sync, W: Write>(
         ports: options.ports,
         input,
         old_parts: old_parts.as_ref(),
+        times: times.as_ref(),
         sessions: sessions_of(options),
         tick: options.tick,
         step: options.step,
@@ -155,6 +159,24 @@ fn old_parts_of<'s, H: Host>(
         Some(keep) => Ok(Some(OldParts::new(host, notes, alloc, folder, keep)?)),
         None => Ok(None),
     }
+}
+
+/// Returns the writer of the times of the entries of these lines, or `None` if there are no audit texts.
+///
+/// Returns an error if memory is refused.
+fn times_of<'s, H: Host>(
+    host: &'s H,
+    notes: &'s Notes<'s, H>,
+    alloc: Global,
+    options: ServeOptions<'_>,
+    lines: &[ServedLine],
+) -> Result<Option<TimesWriter<'s, H>>, AllocError> {
+    let Some(folder) = options.audit else {
+        return Ok(None);
+    };
+    let numbers = numbers_of(lines);
+    let times = TimesWriter::new(host, notes, alloc, folder, numbers.as_slice())?;
+    Ok(Some(times))
 }
 
 /// Serves the connections of all lines, which are not recorded.
@@ -227,10 +249,18 @@ fn serve_named<'a, 's, J: Naming + Send + Sync, H: Host + Sync, W: Write>(
     match served {
         Ok(rack) => {
             let incomplete = first_incomplete(rt, recorders);
+            write_rest(context.times);
             delete_rest(old_parts);
             Ok(ServingOutcome { rack, incomplete })
         }
         Err(fault) => Err(fault),
+    }
+}
+
+/// Writes the times of the last entries, if there are audit texts.
+fn write_rest<H: Host>(times: Option<&TimesWriter<'_, H>>) {
+    if let Some(times) = times {
+        times.write_noted();
     }
 }
 
@@ -354,7 +384,8 @@ fn threads_needed<H>(
     let keeping = usize::from(schedule.wait(0).is_some());
     let waiting = usize::from(context.input.is_some());
     let deleting = usize::from(context.old_parts.is_some());
-    workers + lines * (2 + MOST_OPERATORS) + keeping + waiting + deleting
+    let timing = usize::from(context.times.is_some());
+    workers + lines * (2 + MOST_OPERATORS) + keeping + waiting + deleting + timing
 }
 
 /// Returns the acceptors and workers of all sessions, with this gate.

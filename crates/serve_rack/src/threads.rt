@@ -5,7 +5,7 @@ ghost use Rattle.serve_lines.specs.MasterSessions.{HasServed, place_at};
 ghost use Rattle.serve_lines.specs.ServingLines.{HaveSeats};
 ghost use Rattle.serve_rack.specs.Serving.{most_reads};
 
-use audit_files::{NewFiles, OldParts};
+use audit_files::{NewFiles, OldParts, TimesWriter};
 use crossbeam_channel::{Receiver, RecvTimeoutError, bounded};
 use dp_sessions::PoolFault;
 use log::Log;
@@ -74,7 +74,8 @@ fn end_pool<R: Drop, W: Drop>(pool: MasterPool<'_, R, W>) {
 
 /// Starts a thread for each acceptor and each worker of operators, and then serves the sessions of masters by the workers. It
 /// ends when each acceptor has accepted its number of connections and their sessions have ended. Meanwhile a thread keeps the
-/// time of the lines, if the schedule has ticks or steps, and another deletes old parts of audit texts, if parts are deleted.
+/// time of the lines, if the schedule has ticks or steps, another deletes old parts of audit texts, if parts are deleted, and another
+/// writes the times of entries, if there are audit texts.
 ///
 /// If there is an input, another thread waits for its end and stops serving then.
 ///
@@ -138,6 +139,7 @@ fn serve_sessions<'a, H: Host + Sync, G: TimedGate + Sync>(
         session_gate,
         schedule,
         context.old_parts,
+        context.times,
         accepting,
         || -> Result<ServedMasters, PoolFault>
             requires { HaveSeats pool.ports.now pool.workers.seats.items }
@@ -156,8 +158,8 @@ struct Accepting<M, O, P> {
 }
 
 /// Runs `serve` while threads of their own accept connections, serve operators, keep the time of the lines if the schedule has
-/// ticks or steps, and delete old parts of audit texts if parts are deleted. The last two end after all others, so that operators
-/// see the time pass after the last master has left.
+/// ticks or steps, delete old parts of audit texts if parts are deleted, and write the times of entries if there are audit texts. The
+/// last three end after all others, so that operators see the time pass after the last master has left.
 ///
 /// Returns `OutOfMemory` or `NoThread` if memory or a thread is refused; `serve` is not run then.
 fn serve_in_threads<
@@ -175,6 +177,7 @@ fn serve_in_threads<
     session_gate: &G,
     schedule: Schedule,
     old_parts: Option<&OldParts<'_, H>>,
+    times: Option<&TimesWriter<'_, H>>,
     accepting: Accepting<M, O, P>,
     serve: S,
 ) -> Result<T, PoolFault>
@@ -182,6 +185,9 @@ fn serve_in_threads<
     ensures { OnOk result (S.post serve result) }
 {
     let Ok((ending, ended)) = bounded(alloc, 1) else {
+        return Err(PoolFault::OutOfMemory);
+    };
+    let Ok(times_ended) = ended.clone() else {
         return Err(PoolFault::OutOfMemory);
     };
     thread::scope(
@@ -192,7 +198,8 @@ fn serve_in_threads<
             ensures { OnOk result (S.post serve result) }
         {
             let have_started = start_clock(scope, rt, session_gate, schedule, ended)
-                && start_deleting(scope, old_parts);
+                && start_deleting(scope, old_parts)
+                && start_times(scope, times, times_ended);
             let served = if have_started {
                 serve_while_accepting(rt, serve_phase, accepting, serve)
             } else {
@@ -289,6 +296,20 @@ fn start_deleting<'s, E, H: NewFiles + Wait + Log + Clock + Sync>(
     };
     let deleting = move || old_parts.delete_each();
     scope.spawn(deleting).is_ok()
+}
+
+/// Starts a thread that writes the times of entries until the sender of `ended` is dropped, if there are audit texts. Returns
+/// whether it was started or is not needed.
+fn start_times<'s, E, H: NewFiles + Wait + Log + Clock + Sync>(
+    scope: &Scope<'s, E>,
+    times: Option<&'s TimesWriter<'_, H>>,
+    ended: Receiver<()>,
+) -> bool {
+    let Some(times) = times else {
+        return true;
+    };
+    let writing = move || times.write_each(&ended);
+    scope.spawn(writing).is_ok()
 }
 
 /// Starts a thread for each acceptor and each worker of operators. Connections are accepted once all these threads have started.

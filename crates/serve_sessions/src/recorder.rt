@@ -74,7 +74,7 @@ pub fn record_lines<'a, 's, H: Host>(
     ensures fault { IfErr result (IsRecordingFault (Some folder.entry) (line_numbers served.entry.lines.now)) }
 {
     let ServedLines { lines, ports } = served;
-    let (alloc, old_parts) = (context.alloc, context.old_parts);
+    let (alloc, old_parts, times) = (context.alloc, context.old_parts, context.times);
     let (host, notes) = (context.sockets.rt, context.sockets.notes);
     let serve_phase = context.sockets.serve_phase;
     match make_folder(host, folder) {
@@ -86,7 +86,7 @@ pub fn record_lines<'a, 's, H: Host>(
         let port = &ports[all.len()];
         let number = line.spec.number;
         let file = match begin_text(
-            host, notes, alloc, old_parts, folder, parts, &port.line, number,
+            host, notes, alloc, old_parts, times, folder, parts, &port.line, number,
         ) {
             Ok(file) => file,
             Err(fault) => return Err(fault),

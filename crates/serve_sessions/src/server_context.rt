@@ -1,6 +1,6 @@
 //! What the threads that serve a rack share.
 
-use audit_files::OldParts;
+use audit_files::{OldParts, TimesWriter};
 use serve_sockets::{InputEnd, SocketContext};
 use std::alloc::Global;
 use std::sync::atomic::AtomicU32;
@@ -21,6 +21,8 @@ pub struct ServerContext<'a, H> {
     pub input: Option<&'a InputEnd>,
     /// The old parts of audit texts, or `None` if no part is deleted.
     pub old_parts: Option<&'a OldParts<'a, H>>,
+    /// Writes the times of the entries, or `None` if there are no audit texts.
+    pub times: Option<&'a TimesWriter<'a, H>>,
     /// How many connections each port accepts.
     pub sessions: u64,
     /// The most milliseconds from tick to tick, or `None` if no line has a clock for its time.

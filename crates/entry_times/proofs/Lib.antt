@@ -1,0 +1,4 @@
+pub mod Numbers
+pub mod Between
+pub mod Around
+pub mod InOrder

@@ -1,0 +1,5 @@
+-- helper
+pub mod TimeRows
+pub mod DayTimes
+pub mod PlaceTimes
+pub mod ReadRows
