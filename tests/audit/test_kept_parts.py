@@ -8,7 +8,7 @@ import pytest
 
 from audit.dialogue import line_of
 from audit.endless import (MASTERS, MEGABYTE, SMALL_PARTS, last_place, long_telegrams, part_number, part_numbers, part_paths,
-                           rack_of_sixteen, resident, serve_parts, tokens, wait_for_newest, wait_for_part)
+                           rack_of_sixteen, resident, serve_parts, tokens, wait_for_newest, wait_for_part, without_cut_end)
 from support.audit_texts import names, part_name, times_name, write_files
 from support.clients import exchange, open_master, wait_for
 from support.loads import SilentLoad, finish, start
@@ -17,9 +17,9 @@ from support.telegrams import fresh_diagnosis, slave_diag
 from support.watched_calls import CallWatch
 
 KEEPS_TWO = *SMALL_PARTS, "--keep", "2"
-# How many old parts wait for the one that is being deleted, and the part with which the next one has to be deleted at once: the
-# first part is being deleted once the third one has its head.
-MOST_WAITING, FULL = 16, 20
+# A part with which more old parts are due than the queue of those that are to be deleted has room for, which is 16: the first part
+# is being deleted once the third one has its head.
+MANY = 24
 # How many requests are answered meanwhile at another line.
 MEANWHILE = 1000
 
@@ -106,6 +106,13 @@ class HeldDeletions(CallWatch):
         wait_for(lambda: len(self.threads) >= count)
         self._each[count - 1].set()
 
+    def go_on_behind(self, count):
+        """Waits until this number of deletions was asked for. The last of them stays held up, and all later ones go on."""
+        wait_for(lambda: len(self.threads) >= count)
+        self.released.set()
+        for event in list(self._each)[count:]:
+            event.set()
+
     def release_all(self):
         """Lets all deletions go on."""
         self.released.set()
@@ -114,34 +121,54 @@ class HeldDeletions(CallWatch):
 
 
 def test_deletion_that_is_held_up(serve, tmp_path):
-    """No reply waits for the deletion of an old part, unless 16 others wait for it. All of them are deleted in the end."""
+    """No reply waits for the deletion of an old part, however many others wait for it. All of them are deleted in the end."""
     folder, deletions = tmp_path / "audit", HeldDeletions()
     text = rack(line_of(1, masters=list(MASTERS), capacity=1000), line_of(2), workers=24)
     server = serve(text, "--audit", folder, *KEEPS_TWO, before=deletions.ask)
     load, other = SilentLoad(server, 100, tokens(100)), open_master(server.ports[2].listen, 1)
     load.start()
-    wait_for_part(folder, FULL)
-    wait_for(lambda: len(deletions.threads) == 2)
-    # the thread that deletes is held up, and so is that of the session
-    assert len(set(deletions.threads)) == 2
-    assert part_numbers(folder) == list(range(1, FULL + 1))
-    replies = load.replies
+    wait_for_part(folder, MANY)
     for turn in range(MEANWHILE):
         assert exchange(other, slave_diag(1, 5, 0x5D if turn % 2 else 0x7D)) == fresh_diagnosis(1, 5)
-    assert part_numbers(folder) == list(range(1, FULL + 1))
-    assert load.replies == replies
+    wait_for_part(folder, part_numbers(folder)[-1] + 1)
+    # only the thread that deletes is held up, at the first part
+    assert len(deletions.threads) == 1
+    assert part_numbers(folder)[0] == 1
     deletions.release_all()
-    wait_for_part(folder, FULL + 4)
+    wait_for_part(folder, part_numbers(folder)[-1] + 4)
     wait_for_newest(folder, 2)
     assert server.process.poll() is None and load.fault is None
 
 
+@pytest.mark.parametrize("deleted", [0, 1, MANY - 4])
+def test_kill_while_a_deletion_is_held_up(serve, tmp_path, assert_legal, deleted):
+    """Old parts are deleted in ascending order, also if more wait than the queue has room for: what a kill leaves has no gap."""
+    folder, deletions = tmp_path / "audit", HeldDeletions()
+    server = serve(rack_of_sixteen(), "--audit", folder, *KEEPS_TWO, before=deletions.ask)
+    load = SilentLoad(server, 100, tokens(100))
+    load.start()
+    wait_for_part(folder, MANY)
+    # the part, and then its file of times
+    for count in range(1, 2 * deleted + 1):
+        deletions.release(count)
+    wait_for(lambda: part_numbers(folder)[0] > deleted)
+    deletions.go_on_behind(2 * deleted + 1)
+    wait_for_part(folder, MANY + 2)
+    server.kill()
+    finish([load])
+    paths = without_cut_end(part_paths(folder))
+    numbers = [part_number(path) for path in paths]
+    assert numbers == list(range(deleted + 1, numbers[-1] + 1))
+    assert_legal(server.rack, *paths, entries=last_place(paths[-1].read_bytes()))
+
+
 def test_end_after_deletions(serve, tmp_path, assert_legal):
-    """When all sessions have ended, the old parts that wait are deleted before the program ends."""
+    """When all sessions have ended, the old parts that are due are deleted before the program ends, also those that wait for room in
+    the queue."""
     folder, deletions = tmp_path / "audit", HeldDeletions()
     server = serve(rack_of_sixteen(), "--audit", folder, *KEEPS_TWO, "--sessions", "1", before=deletions.ask)
     server.operator().close()
-    load = SilentLoad(server, 100, tokens(100, 100), until=(folder / part_name(8)).exists)
+    load = SilentLoad(server, 100, tokens(100, 100), until=(folder / part_name(MANY)).exists)
     load.start()
     load.finish()
     last = part_numbers(folder)[-1]
@@ -149,10 +176,12 @@ def test_end_after_deletions(serve, tmp_path, assert_legal):
     load.close()
     # the last deletions are held up one after another: the program is there until each of them is done
     for count in range(1, last - 1):
-        assert_legal(server.rack, *part_paths(folder), entries=load.sent)
+        if count in (1, MANY // 2, last - 2):
+            assert_legal(server.rack, *part_paths(folder), entries=load.sent)
         # the part, and then its file of times
         deletions.release(2 * count - 1)
-        wait_for(lambda: len(part_numbers(folder)) == last - count or server.process.poll() is not None)
+        wait_for(lambda: part_numbers(folder)[0] > count or server.process.poll() is not None)
+        assert part_numbers(folder) == list(range(count + 1, last + 1))
         deletions.release(2 * count)
     done = server.wait()
     assert (done.status, done.output) == (0, "")

@@ -1,2 +1,3 @@
 pub mod Crossings
+pub mod Due
 pub mod Numbers

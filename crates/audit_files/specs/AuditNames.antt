@@ -1,6 +1,6 @@
 -- detail
 -- The names of the files of audit texts (own).
-use Rattle.std.specs.Prelude.{codes, ℕ, ◌+◌, ◌-◌, ◌==◌, ◌&&◌, Bool, nat_le, if◌then◌else◌, List, ◌++◌, Option, Some, None}
+use Rattle.std.specs.Prelude.{codes, ℕ, ◌+◌, ◌==◌, ◌&&◌, Bool, if◌then◌else◌, List, ◌++◌, Option, Some, None}
 use Rattle.std.specs.Borrow.{Bor}
 use Rattle.std.specs.Fmt.{decimal}
 use Rattle.audit_files.specs.declared.audit_name.AuditName.{AuditName}
@@ -22,15 +22,6 @@ part_behind name (Some part) = if part == 4294967295 then None else Some (record
 
 abbrev pub next_part : AuditName → Option AuditName
 next_part name = part_behind name name.part
-
--- the part of the same text that is older than this one by this number of parts, if there is one
-abbrev pub part_before : ℕ → AuditName → Option ℕ → Option AuditName
-part_before count name None = None
-part_before count name (Some part) = if nat_le part count then None else Some (record name { part = Some (part - count) })
-
--- the part that is deleted once this one has its head, so that with this one the newest of this many stay
-abbrev pub part_to_delete : ℕ → AuditName → Option AuditName
-part_to_delete keep newest = part_before keep newest newest.part
 
 -- files of one text: of the same line, with the same number
 abbrev pub is_same_text : AuditName → AuditName → Bool

@@ -7,3 +7,5 @@ pub mod TextNumbers
 pub mod ReadNames
 pub mod TimesPaths
 pub mod LineTimes
+pub mod DueParts
+pub mod DuePartsExamples

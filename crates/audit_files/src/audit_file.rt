@@ -260,7 +260,8 @@ fn begin_trail<'a, 's, H: FileHost>(
     }
 }
 
-/// Writes the entries that a text still lacks, and returns its pass to the line.
+/// Writes the entries that a text still lacks, returns its pass to the line, and deletes the old parts that are left. The thread
+/// that deletes has ended before, so all old parts are deleted in ascending order.
 ///
 /// Returns the file that lacks an entry, if one was not written.
 pub fn complete_text<'a, H: FileHost, J: Naming>(
@@ -273,12 +274,14 @@ pub fn complete_text<'a, H: FileHost, J: Naming>(
     let mut tail = trail.into_tail();
     let written_up_to = tail.catch_up(host);
     let (writer, _) = tail.close(host);
+    let (part, refused) = (writer.part(), writer.refused());
+    writer.delete_due();
     match written_up_to {
         Ok(_) => None,
         Err(reason) => Some(IncompleteFile {
-            path: path.in_part(writer.part()),
+            path: path.in_part(part),
             reason,
-            refused: writer.refused(),
+            refused,
         }),
     }
 }

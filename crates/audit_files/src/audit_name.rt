@@ -2,7 +2,7 @@
 
 ghost use Rattle.std.specs.Prelude.{◌≡◌, Some};
 ghost use Rattle.std.specs.Fmt.{decimal};
-ghost use Rattle.audit_files.specs.AuditNames.{audit_name_text, is_same_text, next_part, part_to_delete, path_in};
+ghost use Rattle.audit_files.specs.AuditNames.{audit_name_text, is_same_text, next_part, path_in};
 ghost use Rattle.audit_files.specs.ReadNames.{IsFileName, IsFileNumber, IsLineNumber, IsReadFrom, IsTextNumber, numbers_text, part_digits, text_number_text};
 
 use crate::audit_path::{AuditPath, leading_zeros};
@@ -66,24 +66,14 @@ impl AuditName {
         }
     }
 
-    /// Returns the name of the part that is deleted once the part with this name has its head. With this one, the newest `keep`
-    /// parts stay. Returns None if no part is older than these.
-    pub(crate) fn part_to_delete(self, keep: u16) -> Option<AuditName>
-        ensures { result ≡ part_to_delete keep self }
+    /// Returns the name of the part with this number of the same text.
+    pub(crate) fn of_part(self, part: u32) -> AuditName
+        ensures { result ≡ record self { part = Some part } }
     {
-        match self.part {
-            None => None,
-            Some(part) => {
-                let keep = u32::from(keep);
-                if part <= keep {
-                    return None;
-                }
-                Some(AuditName {
-                    line: self.line,
-                    number: self.number,
-                    part: Some(part - keep),
-                })
-            }
+        AuditName {
+            line: self.line,
+            number: self.number,
+            part: Some(part),
         }
     }
 

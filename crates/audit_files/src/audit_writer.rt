@@ -8,6 +8,7 @@ ghost use Rattle.audit_files.specs.Parts.{HasBegun, IsEmptyText, after, bytes_of
 
 use crate::audit_name::AuditName;
 use crate::audit_path::AuditPath;
+use crate::due_parts::DueParts;
 use crate::file_host::NewFiles;
 use crate::line_times::{LineTimes, Recorded};
 use crate::old_parts::OldParts;
@@ -121,7 +122,7 @@ impl Part {
 /// Writes an audit text to a file, or to one file per part.
 ///
 /// A part is full after the first row with which it reaches its minimum size. Then the trail begins the next part, whose file is
-/// created with it. Once that part has its head, the oldest part is put among the old parts, if parts are deleted.
+/// created with it. Once that part has its head, a further part is due to be deleted, if parts are deleted.
 ///
 /// Only files of this text are deleted. No file of the folder had the number of the text when it was begun, so this run of the
 /// program created each of them.
@@ -142,6 +143,8 @@ pub struct AuditWriter<'a, 's, H> {
     refused: Option<CreateFault>,
     /// The old parts, or `None` if no part is deleted.
     old_parts: Option<&'s OldParts<'s, H>>,
+    /// The parts of the text that are due to be deleted.
+    due: DueParts,
     /// The times of the line, or `None` if they are not written.
     times: Option<&'s LineTimes>,
 }
@@ -176,6 +179,7 @@ impl<'a, 's, H: NewFiles + Wait + Log + Clock> AuditWriter<'a, 's, H> {
             earlier: WrittenBytes::new(),
             refused: None,
             old_parts,
+            due: DueParts::new(),
             times,
         }
     }
@@ -192,6 +196,13 @@ impl<'a, 's, H: NewFiles + Wait + Log + Clock> AuditWriter<'a, 's, H> {
         ensures { result ≡ self.now.refused }
     {
         self.refused
+    }
+
+    /// Deletes the parts that are due to be deleted, once serving has ended and nothing more is written.
+    pub(crate) fn delete_due(self) {
+        if let Some(old_parts) = self.old_parts {
+            old_parts.delete_due(self.name, self.due);
+        }
     }
 
     /// Returns the name of the file that is being written or could not be created.
@@ -294,10 +305,10 @@ impl<H: NewFiles + Wait + Log + Clock> WriteParts for AuditWriter<'_, '_, H> {
         times.note(self.host, recorded);
     }
 
-    /// Has the oldest part deleted if there is one more than those that are to stay.
+    /// Puts the parts that are due to be deleted now among the old parts, as far as they accept them.
     fn end_head(&mut self, _part: BegunPart) {
-        if let Some(old_parts) = self.old_parts {
-            old_parts.put_oldest(self.name());
+        if let (Some(old_parts), Some(newest)) = (self.old_parts, self.part()) {
+            old_parts.put_due(self.name, newest, &mut self.due);
         }
     }
 }

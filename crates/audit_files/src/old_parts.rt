@@ -1,10 +1,13 @@
 //! Deleting old parts of audit texts.
 //!
 //! Deleting a file of many megabytes takes milliseconds, and a writer holds up its line while it works. So the writer of a text
-//! only puts an old part into a queue, and a thread of the server deletes it.
+//! only puts old parts into a queue, and a thread of the server deletes them. If the queue is full, the writer remembers which parts
+//! are due, and puts them into the queue once its next part has begun, or deletes them when serving has ended. So the parts of a
+//! text are deleted in ascending order, and what is left of it has no gap, also if the program is killed.
 
 use crate::audit_name::AuditName;
 use crate::audit_writer::text_of_path;
+use crate::due_parts::DueParts;
 use crate::file_host::NewFiles;
 use crate::times_path::{TimesPath, text_of_times_path};
 use crossbeam_channel::{Receiver, Sender, bounded};
@@ -15,7 +18,7 @@ use std::io::{self, Error, ErrorKind};
 use std::sync::Wait;
 use std::time::Clock;
 
-/// The most old parts that wait to be deleted: two for each line of a rack.
+/// The most old parts in the queue: two for each line of a rack. Further ones wait in the writers of their texts.
 const MOST_WAITING: usize = 16;
 
 /// What the thread that deletes takes from its queue.
@@ -80,28 +83,42 @@ impl<'s, H: NewFiles + Wait + Log + Clock> OldParts<'s, H> {
         let _ = self.sender.send(self.host, Deletion::End);
     }
 
-    /// Deletes the parts that came into the queue after the end.
-    pub fn delete_rest(&self) {
+    /// Makes the parts of a text due that are not among the newest ones that stay. `newest` is the number of its newest part, which
+    /// has its head. Then puts due parts into the queue, the oldest first, until it is full. What is due then waits for the next call.
+    pub(crate) fn put_due(&self, text: AuditName, newest: u32, due: &mut DueParts) {
+        due.stay(self.keep, newest);
+        while let Some(oldest) = due.oldest() {
+            if !self.put(text.of_part(oldest)) {
+                return;
+            }
+            due.hand_over_oldest();
+        }
+    }
+
+    /// Puts a part into the queue. Returns whether there was room for it.
+    fn put(&self, part: AuditName) -> bool {
+        self.sender
+            .try_send(self.host, Deletion::Part(part))
+            .is_ok()
+    }
+
+    /// Deletes the parts that are left in the queue, and then the parts of a text that are due. It is called once
+    /// [`delete_each`](OldParts::delete_each) has returned.
+    pub(crate) fn delete_due(&self, text: AuditName, mut due: DueParts) {
+        self.delete_rest();
+        while let Some(oldest) = due.oldest() {
+            self.delete(text.of_part(oldest));
+            due.hand_over_oldest();
+        }
+    }
+
+    /// Deletes the parts that are left in the queue.
+    fn delete_rest(&self) {
         for deletion in self.receiver.try_iter(self.host) {
             match deletion {
                 Deletion::Part(part) => self.delete(part),
                 Deletion::End => {}
             }
-        }
-    }
-
-    /// Puts the oldest part of a text into the queue if there is one more than those that are to stay. `newest` is the name of its
-    /// newest part, which has its head. If the queue is full, the oldest part is deleted at once.
-    pub(crate) fn put_oldest(&self, newest: AuditName) {
-        let Some(oldest) = newest.part_to_delete(self.keep) else {
-            return;
-        };
-        if self
-            .sender
-            .try_send(self.host, Deletion::Part(oldest))
-            .is_err()
-        {
-            self.delete(oldest);
         }
     }
 

@@ -241,7 +241,7 @@ fn serve_named<'a, 's, J: Naming + Send + Sync, H: Host + Sync, W: Write>(
     ensures incomplete { IfOk result (λ outcome. IfSome outcome.incomplete (λ file. IsPartOfOne (paths_of recorders.entry.items) file.path)) }
     ensures err { IfErr result (λ fault. ServesConnections (map place_at listening.entry.workers.ports.now) (W.contents writer.old) (W.contents writer.new) (Err fault)) }
 {
-    let (rt, alloc, old_parts) = (context.sockets.rt, context.alloc, context.old_parts);
+    let (rt, alloc) = (context.sockets.rt, context.alloc);
     let Some(recorders) = name_trails::<H, J>(alloc, recorders) else {
         return Err(OutputFault::OutOfMemory);
     };
@@ -250,7 +250,6 @@ fn serve_named<'a, 's, J: Naming + Send + Sync, H: Host + Sync, W: Write>(
         Ok(rack) => {
             let incomplete = first_incomplete(rt, recorders);
             write_rest(context.times);
-            delete_rest(old_parts);
             Ok(ServingOutcome { rack, incomplete })
         }
         Err(fault) => Err(fault),
@@ -261,13 +260,6 @@ fn serve_named<'a, 's, J: Naming + Send + Sync, H: Host + Sync, W: Write>(
 fn write_rest<H: Host>(times: Option<&TimesWriter<'_, H>>) {
     if let Some(times) = times {
         times.write_noted();
-    }
-}
-
-/// Deletes the old parts that still wait, if parts are deleted.
-fn delete_rest<H: Host>(old_parts: Option<&OldParts<'_, H>>) {
-    if let Some(old_parts) = old_parts {
-        old_parts.delete_rest();
     }
 }
 
