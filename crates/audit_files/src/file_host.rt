@@ -2,7 +2,7 @@
 
 use log::Log;
 use std::fs::{self, File, Files, OpenOptions};
-use std::io::Result;
+use std::io::{ErrorKind, Result};
 use std::os::unix::fs::OpenOptionsExt;
 use std::sync::Wait;
 use std::time::Clock;
@@ -39,6 +39,17 @@ impl<F: Files<File = File>> NewFiles for F {
 
     fn has_file(&self, path: &str) -> bool {
         fs::metadata(self, path).is_ok()
+    }
+}
+
+/// Removes the file at a path, if there is one.
+pub(crate) fn remove_if_there(files: &impl NewFiles, path: &str) -> Result<()> {
+    match files.remove_file(path) {
+        Ok(()) => Ok(()),
+        Err(error) => match error.kind() {
+            ErrorKind::NotFound => Ok(()),
+            _ => Err(error),
+        },
     }
 }
 

@@ -35,10 +35,7 @@ impl<'a> fmt::Display for TimesPath<'a> {
 }
 
 /// Returns the text of a path. Memory is taken once. Returns an error if memory is refused.
-pub(crate) fn text_of_times_path(
-    alloc: Global,
-    path: TimesPath<'_>,
-) -> Result<String, AllocError>
+pub(crate) fn text_of_times_path(alloc: Global, path: TimesPath<'_>) -> Result<String, AllocError>
     ensures { IfOk result (λ text. text.bytes.items ≡ times_path_text path.entry) }
 {
     let longest = path.folder.len().saturating_add(LONGEST_NAME);

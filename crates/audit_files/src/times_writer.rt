@@ -9,7 +9,7 @@ ghost use Rattle.audit_files.specs.LineTimes.{noted_rows};
 
 use crate::audit_name::AuditName;
 use crate::audit_writer::text_of_path;
-use crate::file_host::NewFiles;
+use crate::file_host::{NewFiles, remove_if_there};
 use crate::line_times::{LineTimes, Noted, Recorded};
 use crate::times_path::{TimesPath, text_of_times_path};
 use crossbeam_channel::{Receiver, RecvTimeoutError};
@@ -161,14 +161,14 @@ impl<'s, H: NewFiles + Wait + Log + Clock> TimesWriter<'s, H> {
 
     /// Creates the file of times beside the file of the audit text with this name, and writes the header. Returns `None` if the
     /// file of the audit text was deleted. The thread that deletes parts deletes the file of times after the part. So if that
-    /// thread found no file of times yet, the part is missing here, and the new file is removed.
+    /// thread found no file of times yet, the part is missing here, and the new file is removed. That thread may remove it too.
     fn create(&self, name: AuditName) -> io::Result<Option<File>> {
         let folder = self.folder.as_str();
         let path = text_of_times_path(self.alloc, TimesPath { folder, name })?;
         let audit = text_of_path(self.alloc, name.path_in(folder))?;
         let mut file = self.host.new_file(path.as_str())?;
         if !self.host.has_file(audit.as_str()) {
-            self.host.remove_file(path.as_str())?;
+            remove_if_there(self.host, path.as_str())?;
             return Ok(None);
         }
         let header = format!(in self.alloc; "{}\n", TimesHeader { line: name.line })?;
