@@ -28,6 +28,7 @@ SECONDS = [(r"in [\d.]+s", "in some seconds")]
 VARYING = {
     "PYTHONPATH=python python3 -m rackd suite": [(r"place \d+", "a place"), (r"\d+ times", "some times")],
     ".venv/bin/python -m pytest": SECONDS, "PYTHONPATH=python python3 -m pytest": SECONDS,
+    "sleep 0.5; cat audit/line-1-1.times": [(r"(?m) \d{13}$", " MILLISECONDS")],
     "tshark": [(r"(?m)^Running as user .*\n", "")], "grep req": [(r"(?m)^\d+", "N")],
     "rackd explain examples/serve/rack.toml audit/line-1-1.*.audit": [
         (r"(?m)^ +\d+(?=  master)", "N"), (r"at [\d.]+ m?s", "at a time"), (r"entry \d+( on +)?", "an entry ")],
