@@ -22,10 +22,7 @@ impl JsonText {
         self.clear();
         let event = ReadEvent::new(entry.event);
         let context = entry.context;
-        self.route(
-            context.time,
-            SenderAndReceiver::from_event(entry.event),
-        );
+        self.route(context.time, SenderAndReceiver::from_event(entry.event));
         self.event(&event);
         self.answer(entry, &event);
         self.judgement(entry);
