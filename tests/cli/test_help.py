@@ -43,6 +43,7 @@ TEXTS = {
     "judge": [
         "Usage: rackd judge RACK AUDIT.. [--master M] [--rules NAME,..] [--without NAME,..] [--retries N]", "[--json | --junit]",
         "--master <M>", "0 to 255", "--rules <NAME,..>", "--without <NAME,..>", "--retries <N>", "0 to 15 [default: 3]",
+        "--requests-at-least <N>", "0 to 4294967295 [default: 1]", "--exchanges-at-least <N>", "--allow-untested",
         "--json", "--junit",
         "\nRules (docs/reference/judge.md", "\nExamples:\n  rackd "],
     "capture": [

@@ -148,6 +148,13 @@ WRONG = {
         rack audit --without x
         rack audit --json --junit
         rack audit --junit --junit
+        rack audit --requests-at-least
+        rack audit --requests-at-least 4294967296
+        rack audit --requests-at-least 01
+        rack audit --exchanges-at-least -1
+        rack audit --exchanges-at-least 4294967296
+        rack audit --allow-untested --allow-untested
+        rack audit --allow-untested=1
         rack audit --follow""",
     "capture": """
 

@@ -61,14 +61,16 @@ def test_json_of_receivers(text_of):
 
 
 def test_junit(text):
-    """There is a test case for the text, and one for each rule of each master. An error is a failure."""
+    """There are two test cases for the text, and for each master one and one for each rule. An error is a failure."""
     done = text.judge("--junit")
     suite = xml.fromstring(done.output.encode())
     cases = [(case.get("classname"), case.get("name")) for case in suite.findall("testcase")]
     failures = [(case.get("classname"), case.get("name")) for case in suite.findall("testcase[failure]")]
     assert (done.status, suite.tag) == (1, "testsuite")
-    assert cases == [("text", "legal"), *(("master 1", rule) for rule in RULES), *(("master 2", rule) for rule in RULES)]
-    assert (suite.get("tests"), suite.get("failures")) == (str(1 + 2 * len(RULES)), "1")
+    assert cases == [
+        ("text", "legal"), ("text", "tested"), ("master 1", "tested"), ("master 2", "tested"),
+        *(("master 1", rule) for rule in RULES), *(("master 2", rule) for rule in RULES)]
+    assert (suite.get("tests"), suite.get("failures"), suite.get("skipped")) == (str(4 + 2 * len(RULES)), "1", "0")
     assert failures == [("master 1", "fcb-repeated")]
 
 
@@ -101,8 +103,11 @@ ONE_RULE_JSON = (
     '"text":"Set_Prm, though this slave never answered Slave_Diag","count":1,"first":1}}\n')
 ONE_RULE_XML = """\
 <?xml version="1.0" encoding="UTF-8"?>
-<testsuite name="rackd judge" tests="3" failures="1">
+<testsuite name="rackd judge" tests="6" failures="1" skipped="0">
 <testcase classname="text" name="legal"></testcase>
+<testcase classname="text" name="tested"></testcase>
+<testcase classname="master 1" name="tested"></testcase>
+<testcase classname="master 2" name="tested"></testcase>
 <testcase classname="master 1" name="prm-before-diag"><failure type="error" \
 message="1, first at place 1">Set_Prm, though this slave never answered Slave_Diag</failure></testcase>
 <testcase classname="master 2" name="prm-before-diag"></testcase>

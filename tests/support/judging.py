@@ -33,6 +33,10 @@ CONFIGURATIONS = {5: b"\x21\x11", 6: b"\x20"}
 FIRST, FCB_0, FCB_1 = 0x6D, 0x5D, 0x7D
 
 
+# With these options nothing is untested.
+NOTHING_WANTED = "--requests-at-least", "0", "--exchanges-at-least", "0"
+
+
 class Request(NamedTuple):
     """A request of a script. Without a function code it is the next SRD of its master to its slave, FCB alternates."""
 
@@ -117,6 +121,10 @@ class JudgedText:
         assert checked == (0, f"legal {len(script)}\n", "")
 
     def judge(self, *options):
+        """Runs `rackd judge` on the text, as one that asks for no least number of requests and exchanges."""
+        return self.judge_as_usual(*NOTHING_WANTED, *options)
+
+    def judge_as_usual(self, *options):
         """Runs `rackd judge` on the text."""
         return self._run("judge", self._rack, self.path, *options)
 

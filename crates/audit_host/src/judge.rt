@@ -7,7 +7,7 @@ use crate::output::{buffered, written};
 use crate::reasons::noted_reason;
 use crate::stations::check_stations;
 use judge_rules::JudgeRule;
-use judge_texts::{Form, JudgeChoice, run_judge};
+use judge_texts::{Form, JudgeChoice, Least, run_judge};
 use rack_script::RunFault;
 use rackd_cli::{Entries, Findings, Judging};
 use std::alloc::{AllocError, Global};
@@ -36,6 +36,11 @@ pub fn judge_text<'a, H: Runtime + AllocGlobal>(
         master: judging.master,
         retries: judging.retries,
         form: form_of(judging.findings),
+        least: Least {
+            requests: u64::from(judging.requests),
+            exchanges: u64::from(judging.exchanges),
+        },
+        allows_untested: judging.allows_untested,
     };
     judge_by(rt, rack, audit, &choice, shows)
 }

@@ -40,7 +40,12 @@ counted judge entry place (rule ∷ rules) counts =
     counted judge entry place rules (one_more_if (breaks judge.retries judge.past entry rule) rule place counts)
 
 abbrev pub first_seat : ℕ → ℕ → Seat
-first_seat master retries = record { master = master; judge = record { retries = retries; past = [] }; counts = no_counts }
+first_seat master retries = record {
+  master = master;
+  judge = record { retries = retries; past = [] };
+  counts = no_counts;
+  tested = record { requests = 0; exchanges = 0 };
+}
 
 -- one of these rules was broken, and that is an error
 abbrev pub is_error_severity : Severity → Bool

@@ -4,3 +4,4 @@ pub mod Counts
 pub mod Summary
 pub mod Lines
 pub mod FindingExamples
+pub mod Tested

@@ -8,6 +8,7 @@ use Rattle.judge_rules.specs.declared.entry.Entry.{Entry}
 use Rattle.judge_rules.specs.declared.rule.JudgeRule.{JudgeRule}
 use Rattle.judge_findings.specs.declared.seat.Seat.{Seat}
 use Rattle.judge_findings.specs.Counts.{counted, first_seat}
+use Rattle.judge_findings.specs.Tested.{tested_after}
 
 pub record LineJudgeView : Type 0 where
   pub seats : List Seat
@@ -27,6 +28,7 @@ abbrev pub seat_after : Entry → ℕ → List JudgeRule → Seat → Seat
 seat_after entry place rules seat = record seat {
   judge = record seat.judge { past = seat.judge.past ++ entry ∷ [] };
   counts = counted seat.judge entry place rules seat.counts;
+  tested = tested_after entry seat.tested;
 }
 
 -- the first judge of the master takes the entry; all others are unchanged

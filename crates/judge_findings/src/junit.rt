@@ -6,6 +6,8 @@ ghost use Rattle.judge_findings.specs.Summary.{case_inside, cases_of_seat, test_
 
 use crate::seat::{RuleCount, Seat};
 use crate::summary::TimesWords;
+use crate::tested::Least;
+use crate::untested::{exchanges_of, lacks_requests};
 use judge_rules::{JudgeRule, Severity};
 use std::fmt;
 
@@ -29,24 +31,33 @@ pub struct Junit<'a> {
     pub rules: &'a [JudgeRule],
     /// The verdict on the text.
     pub verdict: JunitVerdict,
+    /// How much has to be done, so that a master is tested.
+    pub least: Least,
 }
 
 impl<'a> fmt::Display for Junit<'a> {
     fn fmt<W: fmt::Write>(&self, f: &mut fmt::Formatter<W>) -> fmt::Result {
-        let tests = 1
-            + self
-                .seats
-                .len()
-                .saturating_mul(self.rules.len())
-                .min(1_000_000);
+        let tests = self.tests();
         let failures = self.failures();
+        let skipped = self.skipped();
         write!(f, "<?xml version=\"1.0\" encoding=\"UTF-8\"?>\n")?;
         write!(
             f,
-            "<testsuite name=\"rackd judge\" tests=\"{tests}\" failures=\"{failures}\">\n"
+            "<testsuite name=\"rackd judge\" tests=\"{tests}\" failures=\"{failures}\" skipped=\"{skipped}\">\n"
         )?;
         let text = TextCase(self.verdict);
-        write!(f, "{text}")?;
+        let exchanges = ExchangesCase {
+            seats: self.seats,
+            least: self.least.exchanges,
+        };
+        write!(f, "{text}{exchanges}")?;
+        for seat in self.seats {
+            let requests = RequestsCase {
+                seat,
+                least: self.least,
+            };
+            write!(f, "{requests}")?;
+        }
         let cases = SeatsCases {
             seats: self.seats,
             rules: self.rules,
@@ -56,6 +67,26 @@ impl<'a> fmt::Display for Junit<'a> {
 }
 
 impl Junit<'_> {
+    /// Returns the number of test cases: two of the text, and of each master one and one for each rule.
+    fn tests(&self) -> usize {
+        let of_master = self.rules.len().saturating_add(1);
+        self.seats.len().saturating_mul(of_master).saturating_add(2)
+    }
+
+    /// Returns the number of test cases that are skipped, since too little was done.
+    fn skipped(&self) -> usize {
+        let mut skipped: usize = 0;
+        if exchanges_of(self.seats) < self.least.exchanges {
+            skipped = 1;
+        }
+        for seat in self.seats {
+            if lacks_requests(seat, self.least) {
+                skipped = skipped.saturating_add(1);
+            }
+        }
+        skipped
+    }
+
     /// Returns the number of test cases that fail.
     fn failures(&self) -> usize {
         let mut failures: usize = match self.verdict {
@@ -88,6 +119,54 @@ impl fmt::Display for TextCase {
                     "<failure type=\"error\" message=\"not the policy {row}\"/>"
                 )?;
             }
+        }
+        write!(f, "</testcase>\n")
+    }
+}
+
+/// The test case of the Data_Exchanges that were answered: it is skipped if they are fewer than are wanted.
+#[derive(Clone, Copy)]
+struct ExchangesCase<'a> {
+    seats: &'a [Seat],
+    least: u64,
+}
+
+impl<'a> fmt::Display for ExchangesCase<'a> {
+    fn fmt<W: fmt::Write>(&self, f: &mut fmt::Formatter<W>) -> fmt::Result {
+        let exchanges = exchanges_of(self.seats);
+        let least = self.least;
+        write!(f, "<testcase classname=\"text\" name=\"tested\">")?;
+        if exchanges < least {
+            write!(
+                f,
+                "<skipped message=\"untested: exchanges {exchanges}, at least {least}\"/>"
+            )?;
+        }
+        write!(f, "</testcase>\n")
+    }
+}
+
+/// The test case of the requests of a master: it is skipped if they are fewer than are wanted.
+#[derive(Clone, Copy)]
+struct RequestsCase<'a> {
+    seat: &'a Seat,
+    least: Least,
+}
+
+impl<'a> fmt::Display for RequestsCase<'a> {
+    fn fmt<W: fmt::Write>(&self, f: &mut fmt::Formatter<W>) -> fmt::Result {
+        let master = self.seat.master;
+        write!(
+            f,
+            "<testcase classname=\"master {master}\" name=\"tested\">"
+        )?;
+        if lacks_requests(self.seat, self.least) {
+            let requests = self.seat.tested.requests;
+            let least = self.least.requests;
+            write!(
+                f,
+                "<skipped message=\"untested: requests {requests}, at least {least}\"/>"
+            )?;
         }
         write!(f, "</testcase>\n")
     }

@@ -12,6 +12,8 @@ mod line_judge;
 mod receiver;
 mod seat;
 mod summary;
+mod tested;
+mod untested;
 
 pub use finding::{FindingRows, Judged};
 pub use json::FindingLines;
@@ -19,3 +21,5 @@ pub use junit::{Junit, JunitVerdict};
 pub use line_judge::LineJudge;
 pub use seat::{RuleCount, Seat};
 pub use summary::{CountLines, CountRows};
+pub use tested::{Least, Tested};
+pub use untested::{UntestedLines, UntestedRows};

@@ -4,9 +4,12 @@ ghost use Rattle.std.specs.Prelude.{◌≡◌, find, position, IfOk};
 ghost use Rattle.std.specs.List.{list_any};
 ghost use Rattle.std.specs.Option.{option_copied};
 ghost use Rattle.judge_findings.specs.Counts.{has_error};
+ghost use Rattle.judge_findings.specs.Tested.{is_untested};
 ghost use Rattle.judge_findings.specs.Lines.{first_line_judge, first_seats, is_seat_of, taken_at, time_with};
 
 use crate::seat::Seat;
+use crate::tested::Least;
+use crate::untested::is_untested;
 use dp_line::{Event, Op};
 use judge_rules::{Entry, JudgeRule};
 use std::alloc::{AllocError, Global};
@@ -88,6 +91,13 @@ impl LineJudge {
         ensures { result ≡ list_any (λ seat. has_error seat.counts rules.now) self.now.seats }
     {
         any_error(self.seats.as_slice(), rules)
+    }
+
+    /// Returns whether a master sent fewer requests than are wanted, or fewer Data_Exchanges of the masters were answered.
+    pub fn is_untested(&self, least: Least) -> bool
+        ensures { result ≡ is_untested least self.now.seats }
+    {
+        is_untested(self.seats.as_slice(), least)
     }
 }
 

@@ -3,7 +3,9 @@
 ghost use Rattle.std.specs.Prelude.{◌≡◌, ◌++◌, ◌∷◌, [], count_by, IfOk};
 ghost use Rattle.judge_findings.specs.Counts.{count_at, counted, first_seat, has_error, is_error, is_failure, no_counts, one_more};
 ghost use Rattle.judge_findings.specs.Lines.{is_seat_of};
+ghost use Rattle.judge_findings.specs.Tested.{tested_after};
 
+use crate::tested::Tested;
 use judge_rules::{Entry, JudgeRule, MasterJudge, RULES, Severity};
 use std::alloc::{AllocError, Global};
 
@@ -28,6 +30,7 @@ pub struct Seat {
     pub(crate) master: u8,
     pub(crate) judge: MasterJudge,
     pub(crate) counts: Counts,
+    pub(crate) tested: Tested,
 }
 
 impl Counts {
@@ -71,6 +74,10 @@ impl Seat {
             master,
             judge,
             counts: Counts::new(),
+            tested: Tested {
+                requests: 0,
+                exchanges: 0,
+            },
         })
     }
 
@@ -93,6 +100,13 @@ impl Seat {
         ensures { result.now ≡ self.now.judge }
     {
         &self.judge
+    }
+
+    /// Returns how much the master did.
+    pub fn tested(&self) -> Tested
+        ensures { result ≡ self.now.tested }
+    {
+        self.tested
     }
 
     /// Returns how often the master broke a rule.
@@ -134,9 +148,11 @@ impl Seat {
         ensures { self.new ≡ record self.old {
           judge = record self.old.judge { past = self.old.judge.past ++ entry.now ∷ [] };
           counts = counted self.old.judge entry.now place rules.now self.old.counts;
+          tested = tested_after entry.now self.old.tested;
         } }
     {
         count_broken(&mut self.counts, &self.judge, entry, place, rules);
+        self.tested.take(entry);
         self.judge.take(entry);
     }
 }

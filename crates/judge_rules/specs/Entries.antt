@@ -78,6 +78,10 @@ is_served request = is_srd request && not (request.address == global_address) &&
 abbrev pub exchange_asked : Request → Bool
 exchange_asked request = is_served request && is_data_exchange request.service
 
+-- a Data_Exchange that was answered with data, or by a short acknowledgement of a slave without inputs
+abbrev pub is_exchanged : Request → Bool
+is_exchanged request = exchange_asked request && (is_done request.answer || is_dh request.answer)
+
 abbrev pub diag_asked : Request → Bool
 diag_asked request = is_served request && is_slave_diag request.service
 

@@ -1,7 +1,7 @@
 //! What the rules read of an entry of a journal.
 
 ghost use Rattle.std.specs.Prelude.{◌≡◌};
-ghost use Rattle.judge_rules.specs.Entries.{chk_cfg_asked, diag_asked, exchange_asked, is_answered, is_served, is_srd, prm_asked, is_repeat_answer, is_done, is_rr, is_rs, is_ue, is_dh, is_none_selected, diagnosis_in, diag_read};
+ghost use Rattle.judge_rules.specs.Entries.{chk_cfg_asked, diag_asked, diag_read, diagnosis_in, exchange_asked, is_answered, is_dh, is_done, is_exchanged, is_none_selected, is_repeat_answer, is_rr, is_rs, is_served, is_srd, is_ue, prm_asked};
 
 use dp_telegram::{Function, GLOBAL_ADDRESS, Octets};
 
@@ -286,6 +286,13 @@ impl Request {
         ensures { result ≡ exchange_asked self.now }
     {
         self.is_served() && matches!(self.service, Service::DataExchange)
+    }
+
+    /// Returns whether it asks one station for Data_Exchange, and the reply has data, or acknowledges it.
+    pub fn is_exchanged(&self) -> bool
+        ensures { result ≡ is_exchanged self.now }
+    {
+        self.asks_exchange() && (self.answer.is_done() || self.answer.is_dh())
     }
 
     /// Returns whether it asks one station for Slave_Diag.

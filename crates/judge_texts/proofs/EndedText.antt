@@ -27,7 +27,7 @@ use Rattle.rack_script.specs.ReadFaults.{run_fault_of_rows}
 use Rattle.judge_findings.specs.declared.seat.Seat.{Seat}
 use Rattle.judge_findings.specs.Lines.{LineJudgeView}
 use Rattle.judge_texts.specs.declared.choice.JudgeChoice.{JudgeChoice}
-use Rattle.judge_texts.specs.Judging.{JudgedText, ending_in, exit_status, has_errors, judged, judged_by, judged_on, judged_rows}
+use Rattle.judge_texts.specs.Judging.{JudgedText, ending_in, exit_status, fails, judged, judged_by, judged_on, judged_rows}
 use Rattle.judge_texts.specs.RowsJudged.{AreJudged, EndsText, JudgesEntries, JudgesRows}
 use Rattle.judge_texts.specs.Runs.{AppendsPrefix, Judges, RunsJudge}
 
@@ -49,15 +49,15 @@ prefix_by findings (Some ending) old new newer written cut =
 then_judges : (choice : JudgeChoice) (findings : List ℕ) (seats : List Seat) (verdict : Result ℕ AuditFault) (row : List ℕ) (old new newer : Option (List ℕ)) (result : Result ℕ RowsFault) → Appends old new findings
     → JudgesRows (judged_by choice [] seats verdict) row new newer result → JudgesRows (judged_by choice findings seats verdict) row old newer result
 then_judges choice findings seats verdict row old new newer (Ok status) written ends =
-    (ends.0, whole_by findings (ending_in choice.form choice.rules.now seats verdict) old new newer written ends.1, ends.2)
+    (ends.0, whole_by findings (ending_in choice.form choice.rules.now choice.least seats verdict) old new newer written ends.1, ends.2)
 then_judges choice findings seats verdict row old new newer (Err (rows.Explain fault)) written ends =
-    prefix_by findings (ending_in choice.form choice.rules.now seats verdict) old new newer written ends
+    prefix_by findings (ending_in choice.form choice.rules.now choice.least seats verdict) old new newer written ends
 then_judges choice findings seats verdict row old new newer (Err (rows.Read faults.OutOfMemory)) written ends =
-    prefix_by findings (ending_in choice.form choice.rules.now seats verdict) old new newer written ends
+    prefix_by findings (ending_in choice.form choice.rules.now choice.least seats verdict) old new newer written ends
 then_judges choice findings seats verdict row old new newer (Err (rows.Read faults.CannotRead)) written ends =
-    prefix_by findings (ending_in choice.form choice.rules.now seats verdict) old new newer written ends
+    prefix_by findings (ending_in choice.form choice.rules.now choice.least seats verdict) old new newer written ends
 then_judges choice findings seats verdict row old new newer (Err (rows.Read faults.NotText)) written ends =
-    (prefix_by findings (ending_in choice.form choice.rules.now seats verdict) old new newer written ends.0, ends.1)
+    (prefix_by findings (ending_in choice.form choice.rules.now choice.least seats verdict) old new newer written ends.0, ends.1)
 
 -- all rows are judged, and then the text is ended
 pub ends_judged : (choice : JudgeChoice) (line : Description) (text row : List ℕ) (verdict : Result ℕ AuditFault) (judges : LineJudgeView) (old new newer : Option (List ℕ)) (result : Result ℕ RowsFault)
@@ -77,7 +77,7 @@ cut_by findings (Some ending) old new cut = front_cut old new findings ending cu
 cut_is : (choice : JudgeChoice) (line : Description) (text : List ℕ) (old new : Option (List ℕ)) → WritesPrefix old new (judged_rows choice line (lines_of text)).findings → AppendsPrefix (judged choice line text) old new
 cut_is choice line text old new cut =
     let all = judged_rows choice line (lines_of text) in
-    cut_by all.findings (ending_in choice.form choice.rules.now all.judges.seats (checked line text)) old new cut
+    cut_by all.findings (ending_in choice.form choice.rules.now choice.least all.judges.seats (checked line text)) old new cut
 
 pub cut_judged : (choice : JudgeChoice) (line : Description) (text row : List ℕ) (judges : LineJudgeView) (old new : Option (List ℕ)) (fault : RowsFault) → JudgesEntries choice line text judges old new (Err fault)
     → JudgesRows (judged choice line text) row old new (Err fault)
@@ -137,12 +137,12 @@ alone_by P None holds = tt
 alone_by P (Some ending) holds = holds
 
 pub ended_judged : (choice : JudgeChoice) (seats : List Seat) (verdict : Result ℕ AuditFault) (row : List ℕ) (old new : Option (List ℕ)) (status : ℕ) → IsReadable verdict row
-    → EndsText (exit_status (has_errors choice.rules.now seats) verdict) (ending_in choice.form choice.rules.now seats verdict) old new (Ok status) → JudgesRows (judged_by choice [] seats verdict) row old new (Ok status)
-ended_judged choice seats verdict row old new status readable ends = (ends.0, alone_by (Appends old new) (ending_in choice.form choice.rules.now seats verdict) ends.1, readable)
+    → EndsText (exit_status (fails choice seats) verdict) (ending_in choice.form choice.rules.now choice.least seats verdict) old new (Ok status) → JudgesRows (judged_by choice [] seats verdict) row old new (Ok status)
+ended_judged choice seats verdict row old new status readable ends = (ends.0, alone_by (Appends old new) (ending_in choice.form choice.rules.now choice.least seats verdict) ends.1, readable)
 
 pub cut_ended : (choice : JudgeChoice) (seats : List Seat) (verdict : Result ℕ AuditFault) (row : List ℕ) (old new : Option (List ℕ)) (status : ℕ) (fault : ExplainFault)
-    → EndsText status (ending_in choice.form choice.rules.now seats verdict) old new (Err fault) → JudgesRows (judged_by choice [] seats verdict) row old new (Err (rows.Explain fault))
-cut_ended choice seats verdict row old new status fault ends = alone_by (WritesPrefix old new) (ending_in choice.form choice.rules.now seats verdict) ends
+    → EndsText status (ending_in choice.form choice.rules.now choice.least seats verdict) old new (Err fault) → JudgesRows (judged_by choice [] seats verdict) row old new (Err (rows.Explain fault))
+cut_ended choice seats verdict row old new status fault ends = alone_by (WritesPrefix old new) (ending_in choice.form choice.rules.now choice.least seats verdict) ends
 
 -- ---- the ending of a form
 

@@ -1,6 +1,6 @@
 -- detail
 -- Judging the masters of an audit text: what is written of it, and the exit status (own).
-use Rattle.std.specs.Prelude.{codes, ℕ, ◌+◌, if◌then◌else◌, Bool, true, false, List, [], ◌∷◌, ◌++◌, find, fold, Option, Some, None, option_map, Result, Err}
+use Rattle.std.specs.Prelude.{codes, ℕ, ◌+◌, ◌&&◌, ◌||◌, not, if◌then◌else◌, Bool, true, false, List, [], ◌∷◌, ◌++◌, find, fold, Option, Some, None, option_map, Result, Ok, Err}
 use Rattle.std.specs.List.{flat_map, list_any}
 use Rattle.dp_line.specs.declared.event.Event.{Event}
 use Rattle.dp_line.specs.Steps.{step}
@@ -24,6 +24,8 @@ use Rattle.judge_findings.specs.Counts.{has_error}
 use Rattle.judge_findings.specs.Findings.{finding_lines_of, finding_rows_of}
 use Rattle.judge_findings.specs.Lines.{LineJudgeView, first_line_judge, is_seat_of, taken_at, time_with}
 use Rattle.judge_findings.specs.Summary.{lines_of_seat, rows_of_seat}
+use Rattle.judge_findings.specs.Tested.{is_untested, untested_lines, untested_rows}
+use Rattle.judge_findings.specs.declared.tested.Least.{Least}
 use Rattle.judge_texts.specs.declared.choice.Form.{Form}
 use Rattle.judge_texts.specs.declared.choice.Form.TheVariants as forms
 use Rattle.judge_texts.specs.declared.choice.JudgeChoice.{JudgeChoice}
@@ -103,16 +105,31 @@ judged_rows choice line lines = fold (after_row choice) (no_rows choice line (pl
 -- ---- a text
 
 -- what is written behind the findings: the summary, and then the verdict as a check or an explanation writes it. The XML is not defined here
-abbrev pub ending_in : Form → List JudgeRule → List Seat → Result ℕ AuditFault → Option (List ℕ)
-ending_in forms.Rows rules seats verdict = Some ((codes "findings\n" ++ flat_map (rows_of_seat rules) seats) ++ verdict_text verdict)
-ending_in forms.Json rules seats verdict = Some (flat_map (lines_of_seat rules) seats ++ verdict_json verdict)
-ending_in forms.Junit rules seats verdict = None
+abbrev pub summary_rows : List JudgeRule → Option Least → List Seat → List ℕ
+summary_rows rules least seats = codes "findings\n" ++ flat_map (rows_of_seat rules) seats ++ untested_rows least seats
+
+abbrev pub summary_lines : List JudgeRule → Option Least → List Seat → List ℕ
+summary_lines rules least seats = flat_map (lines_of_seat rules) seats ++ untested_lines least seats
+
+-- what is missing of the test is only told of a legal text
+abbrev pub least_if : Result ℕ AuditFault → Least → Option Least
+least_if (Ok entries) least = Some least
+least_if (Err fault) least = None
+
+abbrev pub ending_in : Form → List JudgeRule → Least → List Seat → Result ℕ AuditFault → Option (List ℕ)
+ending_in forms.Rows rules least seats verdict = Some (summary_rows rules (least_if verdict least) seats ++ verdict_text verdict)
+ending_in forms.Json rules least seats verdict = Some (summary_lines rules (least_if verdict least) seats ++ verdict_json verdict)
+ending_in forms.Junit rules least seats verdict = None
 
 -- a judged master broke a rule whose severity is error
 abbrev pub has_errors : List JudgeRule → List Seat → Bool
 has_errors rules seats = list_any (λ seat. has_error seat.counts rules) seats
 
--- 1 if there is an error, or the text is not legal; otherwise 0
+-- .. or too little was done, unless that is allowed
+abbrev pub fails : JudgeChoice → List Seat → Bool
+fails choice seats = has_errors choice.rules.now seats || not choice.allows_untested && is_untested choice.least seats
+
+-- 1 if there is an error, or too little was done, or the text is not legal; otherwise 0
 abbrev pub exit_status : Bool → Result ℕ AuditFault → ℕ
 exit_status true verdict = 1
 exit_status false verdict = verdict_status verdict
@@ -126,8 +143,8 @@ pub record JudgedText : Type 0 where
 abbrev pub judged_by : JudgeChoice → List ℕ → List Seat → Result ℕ AuditFault → JudgedText
 judged_by choice findings seats verdict = record {
   verdict = verdict;
-  written = option_map (λ ending. findings ++ ending) (ending_in choice.form choice.rules.now seats verdict);
-  status = exit_status (has_errors choice.rules.now seats) verdict;
+  written = option_map (λ ending. findings ++ ending) (ending_in choice.form choice.rules.now choice.least seats verdict);
+  status = exit_status (fails choice seats) verdict;
 }
 
 -- an audit text of a line

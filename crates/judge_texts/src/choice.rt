@@ -1,5 +1,6 @@
 //! What is judged, and how it is written.
 
+use judge_findings::Least;
 use judge_rules::JudgeRule;
 
 /// How findings are written.
@@ -24,4 +25,8 @@ pub struct JudgeChoice<'a> {
     pub retries: u8,
     /// How the findings are written.
     pub form: Form,
+    /// How much the masters have to do, so that a verdict on them is worth something.
+    pub least: Least,
+    /// Whether masters that did less are no reason for the exit status 1.
+    pub allows_untested: bool,
 }

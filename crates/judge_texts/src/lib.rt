@@ -14,4 +14,5 @@ mod output;
 mod rows;
 
 pub use choice::{Form, JudgeChoice};
+pub use judge_findings::Least;
 pub use judging::run_judge;

@@ -18,6 +18,12 @@ pub(crate) const WITHOUT: &str = "without";
 
 pub(crate) const RETRIES: &str = "retries";
 
+pub(crate) const REQUESTS: &str = "requests-at-least";
+
+pub(crate) const EXCHANGES: &str = "exchanges-at-least";
+
+const ALLOW_UNTESTED: &str = "allow-untested";
+
 pub(crate) const JUNIT: &str = "junit";
 
 /// The most retries that `--retries` may name (IEC 61158-4-3, max_retry_limit).
@@ -25,6 +31,12 @@ const MOST_RETRIES: u64 = 15;
 
 /// The retries that are allowed if the words name no number.
 const USUAL_RETRIES: u8 = 3;
+
+/// The greatest number of requests and of Data_Exchanges that may be asked for: that of the entries of a text.
+const MOST_ENTRIES: u64 = 4_294_967_295;
+
+/// The requests and the Data_Exchanges that are wanted if the words name no number.
+const USUAL_LEAST: u32 = 1;
 
 /// How many names of rules a row of a message has.
 const NAMES_IN_ROW: usize = 4;
@@ -34,6 +46,7 @@ const HELP: Help = Help {
     about: "Judge the masters of an audit text by the rules of the standard",
     usage: "\
 rackd judge RACK AUDIT.. [--master M] [--rules NAME,..] [--without NAME,..] [--retries N]
+                  [--requests-at-least N] [--exchanges-at-least N] [--allow-untested]
                   [--json | --junit]
        rackd judge --help",
     details: "\
@@ -42,8 +55,11 @@ of the rule and what it says, and a row with the octets of the telegram; for fcb
 one with those of the telegram before. Then follow how often each master broke each rule, and the
 result of 'check'. The text is judged to its first wrong line.
 
-The exit status is 1 if the text is not legal, or if a rule whose severity is error was broken, and
-else 0.
+A verdict is only worth something if something was tried. So a master that sent no request is
+untested, and all masters are if none of their Data_Exchanges was answered: the summary says so.
+
+The exit status is 1 if the text is not legal, if a rule whose severity is error was broken, or if a
+master is untested and --allow-untested is not given; and else 0.
 
 Rules (docs/reference/judge.md says what each one reports):
   fcb-repeated, fcb-not-alternated, fcb-first, fcv-not-set, fcb-not-allowed, retry-limit,
@@ -55,7 +71,7 @@ Rules (docs/reference/judge.md says what each one reports):
   source-point, octets-not-allowed, no-request
 
 With --json each finding is a line of JSON. With --junit standard output is JUnit XML, with one test
-case for each rule and master, and one for the text.
+case for each rule and master, and one for the text. What is untested is skipped there.
 
 Examples:
   rackd judge examples/audit-rack.toml examples/audit.txt
@@ -70,6 +86,13 @@ const RULES_HELP: &str = "Judge only by these rules, separated by commas [defaul
 const WITHOUT_HELP: &str = "Leave these rules out, separated by commas";
 
 const RETRIES_HELP: &str = "Retries of a request that gets no answer: 0 to 15 [default: 3]";
+
+const REQUESTS_HELP: &str = "Requests that each master has to send: 0 to 4294967295 [default: 1]";
+
+const EXCHANGES_HELP: &str =
+    "Answered Data_Exchanges that are wanted, of all masters together [default: 1]";
+
+const ALLOW_UNTESTED_HELP: &str = "Exit with 0 even if a master is untested";
 
 const JSON_HELP: &str = "Print each finding as a line of JSON";
 
@@ -99,6 +122,12 @@ pub struct Judging<'a> {
     pub retries: u8,
     /// How findings are printed.
     pub findings: Findings,
+    /// The requests that each master has to send, so that it is tested.
+    pub requests: u32,
+    /// The Data_Exchanges of all masters that have to be answered, so that they are tested.
+    pub exchanges: u32,
+    /// Whether a master that is not tested is no reason for the exit status 1.
+    pub allows_untested: bool,
 }
 
 /// The word `judge`, with a rack, an audit text, and the options.
@@ -132,6 +161,23 @@ pub(crate) static JUDGE: Word = Word {
             help: RETRIES_HELP,
             value: ValueParser::Unsigned(0, MOST_RETRIES),
             ..NUMBER
+        },
+        Argument {
+            name: REQUESTS,
+            help: REQUESTS_HELP,
+            value: ValueParser::Unsigned(0, MOST_ENTRIES),
+            ..NUMBER
+        },
+        Argument {
+            name: EXCHANGES,
+            help: EXCHANGES_HELP,
+            value: ValueParser::Unsigned(0, MOST_ENTRIES),
+            ..NUMBER
+        },
+        Argument {
+            name: ALLOW_UNTESTED,
+            help: ALLOW_UNTESTED_HELP,
+            ..FLAG
         },
         Argument {
             name: JSON,
@@ -249,5 +295,8 @@ pub(crate) fn judging_of<'a>(words: &ArgMatches<'a>) -> Judging<'a> {
         without: words.get_str(WITHOUT),
         retries: words.get_one(RETRIES).unwrap_or(USUAL_RETRIES),
         findings,
+        requests: words.get_one(REQUESTS).unwrap_or(USUAL_LEAST),
+        exchanges: words.get_one(EXCHANGES).unwrap_or(USUAL_LEAST),
+        allows_untested: words.get_flag(ALLOW_UNTESTED),
     }
 }

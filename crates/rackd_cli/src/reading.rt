@@ -9,7 +9,7 @@ use crate::commands::{
 use crate::file_command::{AuditCommand, Entries, FileCommand};
 use crate::gsd::{ADDRESS, GSD_FILE, LINE, LIST, MODULE, described_slave_of};
 use crate::invocation::{Invocation, WordsFault};
-use crate::judge::{RETRIES, judging_of, refuse_rule, unknown_rule};
+use crate::judge::{EXCHANGES, REQUESTS, RETRIES, judging_of, refuse_rule, unknown_rule};
 use crate::numbers::refused_number;
 use crate::refusals::{BadValue, refuse_value};
 use crate::serve::{
@@ -23,12 +23,14 @@ use std::env::{self, Env};
 use std::io::ErrorKind;
 
 /// The arguments that are numbers, and their names in messages.
-const NUMBERS: [(&str, &str); 19] = [
+const NUMBERS: [(&str, &str); 21] = [
     (FROM, "--from <N>"),
     (TO, "--to <N>"),
     (SLAVE_ADDRESS, "--slave <A>"),
     (MASTER, "--master <M>"),
     (RETRIES, "--retries <N>"),
+    (REQUESTS, "--requests-at-least <N>"),
+    (EXCHANGES, "--exchanges-at-least <N>"),
     (SESSIONS, "--sessions <N>"),
     (PART, "--part <MB>"),
     (KEEP, "--keep <N>"),

@@ -1,15 +1,13 @@
-use Rattle.std.proofs.Common.{codes, ◌++◌}
-use Rattle.std.specs.List.{flat_map}
 use Rattle.explain_texts.specs.Explained.{verdict_text}
 use Rattle.explain_texts.proofs.Writing.{front_cut, then_leaves}
-use Rattle.judge_findings.specs.Summary.{rows_of_seat}
+use Rattle.judge_texts.specs.Judging.{summary_rows}
 use Rattle.judge_texts.proofs.ending.write_rows_end.Goals as goal
 
 pub returns-in-Ok : goal.returns-in-Ok
 returns-in-Ok g c =
     then_leaves (g.W.Write.contents c.args.writer.now) (g.W.Write.contents c.write_text.new.writer) (g.W.Write.contents c.write_verdict_row.new.writer)
-    (codes "findings\n" ++ flat_map (rows_of_seat c.args.rules.now) c.args.seats.now) (verdict_text c.args.verdict) c.write_verdict_row.result c.in-Ok.ensures c.write_verdict_row.ensures
+    (summary_rows c.args.summary.rules.now c.args.summary.least c.args.summary.seats.now) (verdict_text c.args.verdict) c.write_verdict_row.result c.in-Ok.ensures c.write_verdict_row.ensures
 
 pub returns-in-Err : goal.returns-in-Err
 returns-in-Err g c =
-    front_cut (g.W.Write.contents c.args.writer.now) (g.W.Write.contents c.write_text.new.writer) (codes "findings\n" ++ flat_map (rows_of_seat c.args.rules.now) c.args.seats.now) (verdict_text c.args.verdict) c.in-Err.ensures
+    front_cut (g.W.Write.contents c.args.writer.now) (g.W.Write.contents c.write_text.new.writer) (summary_rows c.args.summary.rules.now c.args.summary.least c.args.summary.seats.now) (verdict_text c.args.verdict) c.in-Err.ensures

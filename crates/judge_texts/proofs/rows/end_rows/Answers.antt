@@ -1,5 +1,5 @@
 use Rattle.std.proofs.Common.{[]}
-use Rattle.judge_texts.specs.Judging.{exit_status, has_errors, judged_by}
+use Rattle.judge_texts.specs.Judging.{exit_status, fails, judged_by}
 use Rattle.judge_texts.proofs.EndedText.{cut_ended, ended_judged, not_readable}
 use Rattle.judge_texts.proofs.rows.end_rows.Goals as goal
 
@@ -14,5 +14,5 @@ returns-in-Ok-write_end g c =
 
 pub returns-in-Err-write_end : goal.returns-in-Err-write_end
 returns-in-Err-write_end g c =
-    cut_ended c.args.choice.now c.args.judge.now.seats c.args.verdict c.args.row.now (g.W.Write.contents c.args.writer.now) (g.W.Write.contents c.write_end.new.writer) (exit_status (has_errors c.args.choice.now.rules.now c.args.judge.now.seats) c.args.verdict) c.in-Err-write_end.fault
+    cut_ended c.args.choice.now c.args.judge.now.seats c.args.verdict c.args.row.now (g.W.Write.contents c.args.writer.now) (g.W.Write.contents c.write_end.new.writer) (exit_status (fails c.args.choice.now c.args.judge.now.seats) c.args.verdict) c.in-Err-write_end.fault
     c.in-Err-write_end.ensures
