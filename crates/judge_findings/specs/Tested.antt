@@ -56,7 +56,7 @@ requests_row least seat =
 abbrev pub master_row : Least → Seat → List ℕ
 master_row least seat = if lacks_requests least seat then requests_row least seat else []
 
-abbrev pub exchanges_row : ℕ → ℕ → List ℕ
+unfoldable pub exchanges_row : ℕ → ℕ → List ℕ
 exchanges_row count least = codes "  untested: exchanges " ++ decimal count ++ codes ", at least " ++ decimal least ++ codes "\n"
 
 abbrev pub line_row : Least → List Seat → List ℕ

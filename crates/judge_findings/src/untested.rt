@@ -146,6 +146,7 @@ struct ExchangesRow {
 impl fmt::Display for ExchangesRow {
     ghost output = { λ s. Some (exchanges_row s.count s.least) };
 
+    #[tactic(auto, unfolding(crate::specs::Tested::exchanges_row))]
     fn fmt<W: fmt::Write>(&self, f: &mut fmt::Formatter<W>) -> fmt::Result {
         let ExchangesRow { count, least } = *self;
         write!(
