@@ -56,11 +56,11 @@ requests_row least seat =
 abbrev pub master_row : Least → Seat → List ℕ
 master_row least seat = if lacks_requests least seat then requests_row least seat else []
 
-unfoldable pub exchanges_row : ℕ → ℕ → List ℕ
-exchanges_row count least = codes "  untested: exchanges " ++ decimal count ++ codes ", at least " ++ decimal least ++ codes "\n"
+abbrev pub at_least_words : ℕ → ℕ → List ℕ
+at_least_words count least = decimal count ++ codes ", at least " ++ decimal least
 
 abbrev pub line_row : Least → List Seat → List ℕ
-line_row least seats = if lacks_exchanges least seats then exchanges_row (exchanges_of seats) least.exchanges else []
+line_row least seats = if lacks_exchanges least seats then codes "  untested: exchanges " ++ at_least_words (exchanges_of seats) least.exchanges ++ codes "\n" else []
 
 -- a text that is not legal has no such rows
 abbrev pub untested_rows : Option Least → List Seat → List ℕ

@@ -7,7 +7,7 @@ ghost use Rattle.judge_findings.specs.Summary.{case_inside, cases_of_seat, test_
 use crate::seat::{RuleCount, Seat};
 use crate::summary::TimesWords;
 use crate::tested::Least;
-use crate::untested::{exchanges_of, lacks_requests};
+use crate::untested::{AtLeastWords, exchanges_of, lacks_requests};
 use judge_rules::{JudgeRule, Severity};
 use std::fmt;
 
@@ -133,14 +133,12 @@ struct ExchangesCase<'a> {
 
 impl<'a> fmt::Display for ExchangesCase<'a> {
     fn fmt<W: fmt::Write>(&self, f: &mut fmt::Formatter<W>) -> fmt::Result {
-        let exchanges = exchanges_of(self.seats);
+        let count = exchanges_of(self.seats);
         let least = self.least;
         write!(f, "<testcase classname=\"text\" name=\"tested\">")?;
-        if exchanges < least {
-            write!(
-                f,
-                "<skipped message=\"untested: exchanges {exchanges}, at least {least}\"/>"
-            )?;
+        if count < least {
+            let words = AtLeastWords { count, least };
+            write!(f, "<skipped message=\"untested: exchanges {words}\"/>")?;
         }
         write!(f, "</testcase>\n")
     }

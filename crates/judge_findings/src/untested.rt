@@ -2,7 +2,7 @@
 
 ghost use Rattle.std.specs.Prelude.{◌≡◌, Some};
 ghost use Rattle.std.specs.List.{flat_map, list_any};
-ghost use Rattle.judge_findings.specs.Tested.{exchanges_line, exchanges_of, exchanges_row, is_untested, lacks_exchanges, lacks_requests, line_line, line_row, master_line, master_row, requests_line, requests_row, untested_lines, untested_rows};
+ghost use Rattle.judge_findings.specs.Tested.{exchanges_line, exchanges_of, at_least_words, is_untested, lacks_exchanges, lacks_requests, line_line, line_row, master_line, master_row, requests_line, requests_row, untested_lines, untested_rows};
 
 use crate::seat::Seat;
 use crate::tested::Least;
@@ -131,28 +131,24 @@ impl<'a> fmt::Display for LineRow<'a> {
         if count >= least {
             return Ok(());
         }
-        let row = ExchangesRow { count, least };
-        write!(f, "{row}")
+        let words = AtLeastWords { count, least };
+        write!(f, "  untested: exchanges {words}\n")
     }
 }
 
-/// That fewer Data_Exchanges were answered than are wanted, as a row.
+/// How many there were, and how many are wanted, in words.
 #[derive(Clone, Copy)]
-struct ExchangesRow {
-    count: u64,
-    least: u64,
+pub(crate) struct AtLeastWords {
+    pub(crate) count: u64,
+    pub(crate) least: u64,
 }
 
-impl fmt::Display for ExchangesRow {
-    ghost output = { λ s. Some (exchanges_row s.count s.least) };
+impl fmt::Display for AtLeastWords {
+    ghost output = { λ s. Some (at_least_words s.count s.least) };
 
-    #[tactic(auto, unfolding(crate::specs::Tested::exchanges_row))]
     fn fmt<W: fmt::Write>(&self, f: &mut fmt::Formatter<W>) -> fmt::Result {
-        let ExchangesRow { count, least } = *self;
-        write!(
-            f,
-            "  untested: exchanges {count}, at least {least}\n"
-        )
+        let AtLeastWords { count, least } = *self;
+        write!(f, "{count}, at least {least}")
     }
 }
 
