@@ -114,11 +114,11 @@ count_goes_on address n s (entries.Request request ∷ past) now none =
     count_goes_on address (n + one) (station_with address s (entries.Request request)) past
     (here (request.address == address) (ends_announcement request) (exchange_asked request) s (station_after s request) n now (more s.unread request n now) parts.0) parts.1
     ∙ same_count (n + one + exchanges_to address past) (n + exchanges_to address (entries.Request request ∷ past)) (omega (arith, sum))
-count_goes_on address n s (entries.PassedToken ∷ past) now none =
-    let sum : exchanges_to address (entries.PassedToken ∷ past) ≡ 0 + exchanges_to address past =
-    sum_by-cons (λ entry. cond (is_request_to exchange_asked address entry) 1 0) entries.PassedToken past in
+count_goes_on address n s (entries.PassedToken to ∷ past) now none =
+    let sum : exchanges_to address (entries.PassedToken to ∷ past) ≡ 0 + exchanges_to address past =
+    sum_by-cons (λ entry. cond (is_request_to exchange_asked address entry) 1 0) (entries.PassedToken to) past in
     count_goes_on address n s past now none
-    ∙ same_count (n + exchanges_to address past) (n + exchanges_to address (entries.PassedToken ∷ past)) (omega (arith, sum))
+    ∙ same_count (n + exchanges_to address past) (n + exchanges_to address (entries.PassedToken to ∷ past)) (omega (arith, sum))
 count_goes_on address n s (entries.Stray ∷ past) now none =
     let sum : exchanges_to address (entries.Stray ∷ past) ≡ 0 + exchanges_to address past =
     sum_by-cons (λ entry. cond (is_request_to exchange_asked address entry) 1 0) entries.Stray past in

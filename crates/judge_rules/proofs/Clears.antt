@@ -37,7 +37,7 @@ kept bus [] now none = now
 kept bus (entries.Request request ∷ past) now none =
     let parts = and_parts (not (is_operate (entries.Request request))) (have_no_operate past) none in
     kept (bus_after bus (entries.Request request)) past (ap (λ (b : Bool). clear_after b request) now ∙ stays request (control_asked request) parts.0) parts.1
-kept bus (entries.PassedToken ∷ past) now none = kept (bus_after bus entries.PassedToken) past now none
+kept bus (entries.PassedToken to ∷ past) now none = kept (bus_after bus (entries.PassedToken to)) past now none
 kept bus (entries.Stray ∷ past) now none = kept (bus_after bus entries.Stray) past now none
 
 kept_off : (bus : Bus) (past : List Entry) → bus.is_clear ≡ false → have_no_clear_to_all past ≡ true → (fold bus_after bus past).is_clear ≡ false
@@ -45,7 +45,7 @@ kept_off bus [] now none = now
 kept_off bus (entries.Request request ∷ past) now none =
     let parts = and_parts (not (is_clear_to_all (entries.Request request))) (have_no_clear_to_all past) none in
     kept_off (bus_after bus (entries.Request request)) past (ap (λ (b : Bool). clear_after b request) now ∙ begins_not request (control_asked request) parts.0) parts.1
-kept_off bus (entries.PassedToken ∷ past) now none = kept_off (bus_after bus entries.PassedToken) past now none
+kept_off bus (entries.PassedToken to ∷ past) now none = kept_off (bus_after bus (entries.PassedToken to)) past now none
 kept_off bus (entries.Stray ∷ past) now none = kept_off (bus_after bus entries.Stray) past now none
 
 set_by : (old clear all : Bool) → (clear && all) ≡ true → (if clear then old || all else false) ≡ true
@@ -92,7 +92,7 @@ freeze_by : (bus : Bus) (past : List Entry) → not (fold bus_after bus past).fr
 freeze_by bus [] = sym (and_true (not bus.freeze_asked))
 freeze_by bus (entries.Request request ∷ past) =
     freeze_by (bus_after bus (entries.Request request)) past ∙ neither bus.freeze_asked (asks_freeze request) (have_no_freeze_prm past)
-freeze_by bus (entries.PassedToken ∷ past) = freeze_by (bus_after bus entries.PassedToken) past
+freeze_by bus (entries.PassedToken to ∷ past) = freeze_by (bus_after bus (entries.PassedToken to)) past
 freeze_by bus (entries.Stray ∷ past) = freeze_by (bus_after bus entries.Stray) past
 
 pub freeze_never : (past : List Entry) → not (bus_of past).freeze_asked ≡ have_no_freeze_prm past
@@ -102,7 +102,7 @@ sync_by : (bus : Bus) (past : List Entry) → not (fold bus_after bus past).sync
 sync_by bus [] = sym (and_true (not bus.sync_asked))
 sync_by bus (entries.Request request ∷ past) =
     sync_by (bus_after bus (entries.Request request)) past ∙ neither bus.sync_asked (asks_sync request) (have_no_sync_prm past)
-sync_by bus (entries.PassedToken ∷ past) = sync_by (bus_after bus entries.PassedToken) past
+sync_by bus (entries.PassedToken to ∷ past) = sync_by (bus_after bus (entries.PassedToken to)) past
 sync_by bus (entries.Stray ∷ past) = sync_by (bus_after bus entries.Stray) past
 
 pub sync_never : (past : List Entry) → not (bus_of past).sync_asked ≡ have_no_sync_prm past

@@ -21,7 +21,7 @@ kept time bus (entries.Request request ∷ past) now none =
     let parts = and_parts (not (is_control_to_all (entries.Request request))) (have_no_control_to_all past) none in
     kept time (bus_after bus (entries.Request request)) past
     (cond-false (controls_all request) request.time bus.controlled (not_true (controls_all request) parts.0) ∙ now) parts.1
-kept time bus (entries.PassedToken ∷ past) now none = kept time (bus_after bus entries.PassedToken) past now none
+kept time bus (entries.PassedToken to ∷ past) now none = kept time (bus_after bus (entries.PassedToken to)) past now none
 kept time bus (entries.Stray ∷ past) now none = kept time (bus_after bus entries.Stray) past now none
 
 pub never_controlled : (past : List Entry) → have_no_control_to_all past ≡ true → (bus_of past).controlled ≡ 0
@@ -39,12 +39,12 @@ same one other [] is = is
 same one other (entries.Request request ∷ past) is =
     same (bus_after one (entries.Request request)) (bus_after other (entries.Request request)) past
     (ap (λ (n : ℕ). if controls_all request then request.time else n) is)
-same one other (entries.PassedToken ∷ past) is = same (bus_after one entries.PassedToken) (bus_after other entries.PassedToken) past is
+same one other (entries.PassedToken to ∷ past) is = same (bus_after one (entries.PassedToken to)) (bus_after other (entries.PassedToken to)) past is
 same one other (entries.Stray ∷ past) is = same (bus_after one entries.Stray) (bus_after other entries.Stray) past is
 
 unchanged : (bus : Bus) (entry : Entry) → is_control_to_all entry ≡ false → (bus_after bus entry).controlled ≡ bus.controlled
 unchanged bus (entries.Request request) is = cond-false (controls_all request) request.time bus.controlled is
-unchanged bus entries.PassedToken is = refl
+unchanged bus (entries.PassedToken to) is = refl
 unchanged bus entries.Stray is = refl
 
 pub same_without : (front back : List Entry) (entry : Entry) → is_control_to_all entry ≡ false → (bus_of (front ++ entry ∷ back)).controlled ≡ (bus_of (front ++ back)).controlled

@@ -27,7 +27,7 @@ last_kept address station (entries.Request request ∷ past) none =
     let parts = and_parts (not (is_srd_to address (entries.Request request))) (have_no_srd_to address past) none in
     last_kept address (station_with address station (entries.Request request)) past parts.1
     ∙ same_last (request.address == address) (is_srd request) station (station_after station request) (Some (last_of request)) refl parts.0
-last_kept address station (entries.PassedToken ∷ past) none = last_kept address station past none
+last_kept address station (entries.PassedToken to ∷ past) none = last_kept address station past none
 last_kept address station (entries.Stray ∷ past) none = last_kept address station past none
 
 stored : (at srd : Bool) (station after : Station) (new : Last) → after.last ≡ (if srd then Some new else station.last) → (at && srd) ≡ true

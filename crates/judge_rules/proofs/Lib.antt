@@ -10,3 +10,4 @@ pub mod Retries
 pub mod Since
 pub mod Controls
 pub mod Clears
+pub mod Tokens

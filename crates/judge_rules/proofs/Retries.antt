@@ -59,10 +59,10 @@ rows bus before count (entries.Request r ∷ rest) row are =
     let sum : entry_count (entries.Request r ∷ rest) ≡ 1 + entry_count rest = sum_by-cons (λ entry. cond (not (is_token entry)) 1 0) (entries.Request r) rest in
     moved (fold bus_after (bus_after_request bus r) rest) (last_request r rest) (count + 1 + entry_count rest) (count + entry_count (entries.Request r ∷ rest)) (omega (arith, sum))
     (rows (bus_after_request bus r) r (count + 1) rest (step bus before r count row parts.0) parts.1)
-rows bus before count (entries.PassedToken ∷ rest) row are =
+rows bus before count (entries.PassedToken to ∷ rest) row are =
     let parts = and_parts before.fcv (are_retries before rest) are in
-    let sum : entry_count (entries.PassedToken ∷ rest) ≡ 0 + entry_count rest = sum_by-cons (λ entry. cond (not (is_token entry)) 1 0) entries.PassedToken rest in
-    moved (fold bus_after (bus_after_token bus) rest) (last_request before rest) (count + entry_count rest) (count + entry_count (entries.PassedToken ∷ rest)) (omega (arith, sum))
+    let sum : entry_count (entries.PassedToken to ∷ rest) ≡ 0 + entry_count rest = sum_by-cons (λ entry. cond (not (is_token entry)) 1 0) (entries.PassedToken to) rest in
+    moved (fold bus_after (bus_after_token bus) rest) (last_request before rest) (count + entry_count rest) (count + entry_count (entries.PassedToken to ∷ rest)) (omega (arith, sum))
     (rows (bus_after_token bus) before count rest (token bus before count row parts.0) parts.1)
 rows bus before count (entries.Stray ∷ rest) row are = absurd cc
 

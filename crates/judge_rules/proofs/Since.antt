@@ -25,7 +25,7 @@ kept P x test step address s (entries.Request request ∷ past) now none =
     let parts = and_parts (not (is_request_to test address (entries.Request request))) (have_none test address past) none in
     kept P x test step address (station_with address s (entries.Request request)) past
     (one P x (request.address == address) (test request) s (station_after s request) now (step s request now) parts.0) parts.1
-kept P x test step address s (entries.PassedToken ∷ past) now none = kept P x test step address s past now none
+kept P x test step address s (entries.PassedToken to ∷ past) now none = kept P x test step address s past now none
 kept P x test step address s (entries.Stray ∷ past) now none = kept P x test step address s past now none
 
 -- what a request to the station left is there after the entries that follow
@@ -48,7 +48,7 @@ pub always : {X : Type 0} (P : Station → X) (x : X) → ((s : Station) (r : Re
 always P x step address s [] now = now
 always P x step address s (entries.Request request ∷ past) now =
     always P x step address (station_with address s (entries.Request request)) past (either P x (request.address == address) s (station_after s request) now (step s request now))
-always P x step address s (entries.PassedToken ∷ past) now = always P x step address s past now
+always P x step address s (entries.PassedToken to ∷ past) now = always P x step address s past now
 always P x step address s (entries.Stray ∷ past) now = always P x step address s past now
 
 pub ever_since : {X : Type 0} (P : Station → X) (x : X) → ((s : Station) (r : Request) → P s ≡ x → P (station_after s r) ≡ x)
@@ -63,7 +63,7 @@ ever_since P x step address front back before at now =
 left : (address : ℕ) (station : Station) (entry : Entry) → is_request_to (λ any. true) address entry ≡ false → station_with address station entry ≡ station
 left address station (entries.Request request) other =
     cond-false (request.address == address) (station_after station request) station (sym (and_true (request.address == address)) ∙ other)
-left address station entries.PassedToken other = refl
+left address station (entries.PassedToken to) other = refl
 left address station entries.Stray other = refl
 
 pub same_station : (address : ℕ) (front back : List Entry) (entry : Entry) → is_request_to (λ any. true) address entry ≡ false

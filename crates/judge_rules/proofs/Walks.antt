@@ -45,8 +45,8 @@ left past entry leaves =
 pub stray_taken : (past : List Entry) → all_stations past ≡ all_stations (past ++ entries.Stray ∷ [])
 stray_taken past = left past entries.Stray (λ address station. refl)
 
-pub token_taken : (past : List Entry) → all_stations past ≡ all_stations (past ++ entries.PassedToken ∷ [])
-token_taken past = left past entries.PassedToken (λ address station. refl)
+pub token_taken : (past : List Entry) (to : ℕ) → all_stations past ≡ all_stations (past ++ entries.PassedToken to ∷ [])
+token_taken past to = left past (entries.PassedToken to) (λ address station. refl)
 
 -- a request changes the station that it is sent to
 here : (past : List Entry) (request : Request) (address : ℕ) (v : Station) → address ≡ request.address → v ≡ station_after (station_of request.address past) request
@@ -103,9 +103,9 @@ pub stray_taken_at : (past : List Entry) (entry : Entry) (stations : List Statio
     → stations ≡ all_stations (past ++ entry ∷ [])
 stray_taken_at past entry stations is_stray are = are ∙ stray_taken past ∙ ap (λ e. all_stations (past ++ e ∷ [])) (sym is_stray)
 
-pub token_taken_at : (past : List Entry) (entry : Entry) (stations : List Station) → entry ≡ entries.PassedToken → stations ≡ all_stations past
+pub token_taken_at : (past : List Entry) (entry : Entry) (to : ℕ) (stations : List Station) → entry ≡ entries.PassedToken to → stations ≡ all_stations past
     → stations ≡ all_stations (past ++ entry ∷ [])
-token_taken_at past entry stations is_token are = are ∙ token_taken past ∙ ap (λ e. all_stations (past ++ e ∷ [])) (sym is_token)
+token_taken_at past entry to stations is_token are = are ∙ token_taken past to ∙ ap (λ e. all_stations (past ++ e ∷ [])) (sym is_token)
 
 pub found_at : (past : List Entry) (stations : List Station) (address index : ℕ) (found d : Station) → index ≡ address → index < 256 → found ≡ get_or stations index d
     → stations ≡ all_stations past → found ≡ station_of address past

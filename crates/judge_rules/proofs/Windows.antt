@@ -42,10 +42,10 @@ place_of bus count (entries.Stray ∷ past) place =
     let sum : entry_count (entries.Stray ∷ past) ≡ 1 + entry_count past = sum_by-cons (λ entry. cond (not (is_token entry)) 1 0) entries.Stray past in
     moved (fold bus_after bus (entries.Stray ∷ past)).window (count + 1 + entry_count past) (count + entry_count (entries.Stray ∷ past)) (omega (arith, sum))
     (place_of (bus_after bus entries.Stray) (count + 1) past (step bus.window count true place))
-place_of bus count (entries.PassedToken ∷ past) place =
-    let sum : entry_count (entries.PassedToken ∷ past) ≡ 0 + entry_count past = sum_by-cons (λ entry. cond (not (is_token entry)) 1 0) entries.PassedToken past in
-    moved (fold bus_after bus (entries.PassedToken ∷ past)).window (count + entry_count past) (count + entry_count (entries.PassedToken ∷ past)) (omega (arith, sum))
-    (place_of (bus_after bus entries.PassedToken) count past place)
+place_of bus count (entries.PassedToken to ∷ past) place =
+    let sum : entry_count (entries.PassedToken to ∷ past) ≡ 0 + entry_count past = sum_by-cons (λ entry. cond (not (is_token entry)) 1 0) (entries.PassedToken to) past in
+    moved (fold bus_after bus (entries.PassedToken to ∷ past)).window (count + entry_count past) (count + entry_count (entries.PassedToken to ∷ past)) (omega (arith, sum))
+    (place_of (bus_after bus (entries.PassedToken to)) count past place)
 
 pub begins : (windows : ℕ) (front : List Entry) → entry_count front ≡ windows * 100 → (bus_of front).window ≡ new_window
 begins windows front is =
@@ -101,9 +101,9 @@ strays_are bus (entries.Stray ∷ past) within few =
     (entry_count (entries.Stray ∷ past)) (entry_count past) (stray_count (entries.Stray ∷ past)) (stray_count past) true refl
     (sum_by-cons (λ entry. cond (not (is_token entry)) 1 0) entries.Stray past) (sum_by-cons (λ entry. cond (is_stray entry) 1 0) entries.Stray past) within few
     (strays_are (bus_after bus entries.Stray) past)
-strays_are bus (entries.PassedToken ∷ past) within few =
-    let sum : entry_count (entries.PassedToken ∷ past) ≡ 0 + entry_count past = sum_by-cons (λ entry. cond (not (is_token entry)) 1 0) entries.PassedToken past in
-    let strays : stray_count (entries.PassedToken ∷ past) ≡ 0 + stray_count past = sum_by-cons (λ entry. cond (is_stray entry) 1 0) entries.PassedToken past in
-    let left : (fold bus_after bus (entries.PassedToken ∷ past)).window.strays ≡ bus.window.strays + stray_count past =
-    strays_are (bus_after bus entries.PassedToken) past (omega (arith, within, sum)) few in
+strays_are bus (entries.PassedToken to ∷ past) within few =
+    let sum : entry_count (entries.PassedToken to ∷ past) ≡ 0 + entry_count past = sum_by-cons (λ entry. cond (not (is_token entry)) 1 0) (entries.PassedToken to) past in
+    let strays : stray_count (entries.PassedToken to ∷ past) ≡ 0 + stray_count past = sum_by-cons (λ entry. cond (is_stray entry) 1 0) (entries.PassedToken to) past in
+    let left : (fold bus_after bus (entries.PassedToken to ∷ past)).window.strays ≡ bus.window.strays + stray_count past =
+    strays_are (bus_after bus (entries.PassedToken to)) past (omega (arith, within, sum)) few in
     omega (arith, left, strays)

@@ -84,7 +84,7 @@ bus_after_token bus = record bus { last = if has_fcv bus.last then bus.last else
 
 abbrev pub bus_after : Bus → Entry → Bus
 bus_after bus (entries.Request request) = bus_after_request bus request
-bus_after bus entries.PassedToken = bus_after_token bus
+bus_after bus (entries.PassedToken to) = bus_after_token bus
 bus_after bus entries.Stray = record bus { last = None; retries = 0; window = window_after bus.window true }
 
 -- what these entries, one after another, left

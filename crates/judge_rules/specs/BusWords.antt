@@ -12,7 +12,7 @@ use Rattle.judge_rules.specs.BusFacts.{asks_freeze, asks_sync, clears, controls_
 use Rattle.judge_rules.specs.Entries.{control_asked, is_answered, is_srd}
 
 abbrev pub is_token : Entry → Bool
-is_token entries.PassedToken = true
+is_token (entries.PassedToken to) = true
 is_token other = false
 
 abbrev pub is_stray : Entry → Bool
@@ -35,14 +35,14 @@ is_retry_of before request =
 abbrev pub are_retries : Request → List Entry → Bool
 are_retries before [] = true
 are_retries before (entries.Request request ∷ rest) = is_retry_of before request && are_retries request rest
-are_retries before (entries.PassedToken ∷ rest) = before.fcv && are_retries before rest
+are_retries before (entries.PassedToken to ∷ rest) = before.fcv && are_retries before rest
 are_retries before (entries.Stray ∷ rest) = false
 
 -- the last request of an earlier one and these entries
 abbrev pub last_request : Request → List Entry → Request
 last_request before [] = before
 last_request before (entries.Request request ∷ rest) = last_request request rest
-last_request before (entries.PassedToken ∷ rest) = last_request before rest
+last_request before (entries.PassedToken to ∷ rest) = last_request before rest
 last_request before (entries.Stray ∷ rest) = last_request before rest
 
 -- none of these entries is a Global_Control to all stations

@@ -20,6 +20,7 @@ is_of_the_telegram rules.ControlLength = true
 is_of_the_telegram rules.ControlWithSrd = true
 is_of_the_telegram rules.SdnNeedsReply = true
 is_of_the_telegram rules.BroadcastNeedsReply = true
+is_of_the_telegram rules.SdaNotAllowed = true
 is_of_the_telegram rules.UnknownPoint = true
 is_of_the_telegram rules.SourcePoint = true
 is_of_the_telegram rules.OctetsNotAllowed = true

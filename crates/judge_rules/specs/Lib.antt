@@ -8,6 +8,7 @@ pub mod BringUpRules
 pub mod ExchangeRules
 pub mod ParameterRules
 pub mod TelegramRules
+pub mod TokenRules
 pub mod RuleNames
 pub mod Rules
 pub mod Before

@@ -195,7 +195,7 @@ abbrev pub is_passed_on : ℕ → ℕ → ℕ → Bool
 is_passed_on master da sa = address_of sa == master && is_station (address_of da)
 
 abbrev pub entry_of_token : ℕ → ℕ → ℕ → Entry
-entry_of_token master da sa = if is_passed_on master da sa then entries.PassedToken else entries.Stray
+entry_of_token master da sa = if is_passed_on master da sa then entries.PassedToken (address_of da) else entries.Stray
 
 abbrev pub entry_of_frame : ℕ → ArrayVec ℕ → Outcome → ℕ → Option Frame → Entry
 entry_of_frame master octets outcome time (Some (frames.Token da sa)) = entry_of_token master da sa

@@ -14,10 +14,10 @@ abbrev pub entry_of : List ℕ → Entry
 entry_of octets = entry_of_frame 1 (record { items = octets }) (outcomes.Silence outcome_rules.Token) 0 (frame_of octets)
 
 -- tokens: to another station, to itself, of another master, to all stations
-pub token_to_2 : entry_of (0xDC ∷ 2 ∷ 1 ∷ []) ≡ entries.PassedToken
+pub token_to_2 : entry_of (0xDC ∷ 2 ∷ 1 ∷ []) ≡ entries.PassedToken 2
 token_to_2 = refl
 
-pub token_to_itself : entry_of (0xDC ∷ 1 ∷ 1 ∷ []) ≡ entries.PassedToken
+pub token_to_itself : entry_of (0xDC ∷ 1 ∷ 1 ∷ []) ≡ entries.PassedToken 1
 token_to_itself = refl
 
 pub token_of_2 : entry_of (0xDC ∷ 1 ∷ 2 ∷ []) ≡ entries.Stray

@@ -113,10 +113,17 @@ pub four_strays_are_many : broken_rules 3 (entries.Stray ∷ entries.Stray ∷ e
 four_strays_are_many = refl
 
 -- a token that is passed on is no entry of the hundred
-pub token_is_passed_on : broken_rules 3 (entries.Stray ∷ entries.Stray ∷ entries.Stray ∷ []) entries.PassedToken ≡ []
+pub token_is_passed_on : broken_rules 3 (entries.Stray ∷ entries.Stray ∷ entries.Stray ∷ []) (entries.PassedToken 2) ≡ []
 token_is_passed_on = refl
 
-pub strays_and_a_token : broken_rules 3 (entries.Stray ∷ entries.PassedToken ∷ entries.Stray ∷ []) entries.Stray ≡ []
+-- a token to a station that answered a request is one to a slave
+pub token_to_a_slave : broken_rules 3 diagnosed (entries.PassedToken 5) ≡ rules.TokenToSlave ∷ []
+token_to_a_slave = refl
+
+pub token_to_a_silent_station : broken_rules 3 (first_srd 1 services.SlaveDiag answers.Silence ∷ []) (entries.PassedToken 5) ≡ []
+token_to_a_silent_station = refl
+
+pub strays_and_a_token : broken_rules 3 (entries.Stray ∷ (entries.PassedToken 2) ∷ entries.Stray ∷ []) entries.Stray ≡ []
 strays_and_a_token = refl
 
 -- retries: with FCV 1 after any time, with FCV 0 only at the same time, and before the token is passed on
@@ -127,7 +134,7 @@ pub retry_later : broken_rules 0 (brought_up ++ srd true 4 services.DataExchange
 retry_later = refl
 
 pub retry_after_a_token :
-    broken_rules 0 (brought_up ++ srd true 4 services.DataExchange answers.Silence ∷ entries.PassedToken ∷ []) (srd true 4 services.DataExchange answers.Done)
+    broken_rules 0 (brought_up ++ srd true 4 services.DataExchange answers.Silence ∷ (entries.PassedToken 2) ∷ []) (srd true 4 services.DataExchange answers.Done)
     ≡ rules.RetryLimit ∷ []
 retry_after_a_token = refl
 
@@ -138,7 +145,7 @@ pub poll_later : broken_rules 0 (first_srd 1 services.SlaveDiag answers.Silence 
 poll_later = refl
 
 pub poll_after_a_token :
-    broken_rules 0 (first_srd 1 services.SlaveDiag answers.Silence ∷ entries.PassedToken ∷ []) (first_srd 1 services.SlaveDiag answers.Silence) ≡ []
+    broken_rules 0 (first_srd 1 services.SlaveDiag answers.Silence ∷ (entries.PassedToken 2) ∷ []) (first_srd 1 services.SlaveDiag answers.Silence) ≡ []
 poll_after_a_token = refl
 
 -- a watchdog of 100 ms: the gap before the request counts, whatever the answer, and counts once

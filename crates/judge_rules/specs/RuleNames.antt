@@ -50,10 +50,12 @@ rule_row rules.ControlNotAsked = record { number = 28; name = codes "control-not
 rule_row rules.ControlWithSrd = record { number = 29; name = codes "control-with-srd"; severity = severities.Error; source = sources.GlobalControl; text = codes "Global_Control by SRD, and it has no reply" }
 rule_row rules.SdnNeedsReply = record { number = 30; name = codes "sdn-needs-reply"; severity = severities.Error; source = sources.FunctionCode; text = codes "SDN, which has no reply, to a service that has one" }
 rule_row rules.BroadcastNeedsReply = record { number = 31; name = codes "broadcast-needs-reply"; severity = severities.Error; source = sources.FunctionCode; text = codes "a function with a reply, to all stations" }
-rule_row rules.UnknownPoint = record { number = 32; name = codes "unknown-point"; severity = severities.Warning; source = sources.AccessPoints; text = codes "a point that DP-V0 does not have" }
-rule_row rules.SourcePoint = record { number = 33; name = codes "source-point"; severity = severities.Error; source = sources.AccessPoints; text = codes "the access point of the master is not 62" }
-rule_row rules.OctetsNotAllowed = record { number = 34; name = codes "octets-not-allowed"; severity = severities.Error; source = sources.AccessPoints; text = codes "data in a request that has none: Slave_Diag, Get_Cfg, RD_Inp or RD_Outp" }
-rule_row rules.NoRequest = record { number = 35; name = codes "no-request"; severity = severities.Warning; source = sources.FunctionCode; text = codes "the fourth of a hundred entries that is no request of this master" }
+rule_row rules.SdaNotAllowed = record { number = 32; name = codes "sda-not-allowed"; severity = severities.Error; source = sources.FunctionCode; text = codes "SDA, and the services of DP are SRD and SDN" }
+rule_row rules.UnknownPoint = record { number = 33; name = codes "unknown-point"; severity = severities.Warning; source = sources.AccessPoints; text = codes "a point that DP-V0 does not have" }
+rule_row rules.SourcePoint = record { number = 34; name = codes "source-point"; severity = severities.Error; source = sources.AccessPoints; text = codes "the access point of the master is not 62" }
+rule_row rules.OctetsNotAllowed = record { number = 35; name = codes "octets-not-allowed"; severity = severities.Error; source = sources.AccessPoints; text = codes "data in a request that has none: Slave_Diag, Get_Cfg, RD_Inp or RD_Outp" }
+rule_row rules.TokenToSlave = record { number = 36; name = codes "token-to-slave"; severity = severities.Error; source = sources.TokenPassing; text = codes "the token to a slave: the station has answered a request, and slaves take no token" }
+rule_row rules.NoRequest = record { number = 37; name = codes "no-request"; severity = severities.Warning; source = sources.FunctionCode; text = codes "the fourth of a hundred entries that is no request of this master" }
 
 -- all rules, in the order in which an entry is judged
 abbrev pub all_rules : List JudgeRule
@@ -67,6 +69,7 @@ abbrev pub source_name : Source → List ℕ
 source_name sources.FrameCountBit = codes "IEC 61158-4-3, frame count bit"
 source_name sources.Retry = codes "IEC 61158-4-3, retry"
 source_name sources.FunctionCode = codes "IEC 61158-4-3, function code of a request"
+source_name sources.TokenPassing = codes "IEC 61158-4-3, token passing"
 source_name sources.AddressExtension = codes "IEC 61158-4-3, address extension"
 source_name sources.BringUp = codes "IEC 61158-6-3, bring-up of a slave"
 source_name sources.DataExchange = codes "IEC 61158-6-3, Data_Exchange"

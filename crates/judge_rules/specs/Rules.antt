@@ -15,7 +15,8 @@ use Rattle.judge_rules.specs.FcbRules.{fcb_first, fcb_not_allowed, fcb_not_alter
 use Rattle.judge_rules.specs.BringUpRules.{cfg_before_prm, exchange_after_rs, exchange_before_ready, exchange_of_other, exchange_without_diag, prm_before_diag, prm_without_lock}
 use Rattle.judge_rules.specs.ExchangeRules.{diag_not_read, extension_missing, is_stray_often, length_repeated, outputs_in_clear, retry_limit, watchdog_short}
 use Rattle.judge_rules.specs.ParameterRules.{control_both, control_length, control_not_asked, control_reserved, group_not_set, lock_and_unlock, min_tsdr_low, prm_of_other, prm_reserved, prm_short, watchdog_zero}
-use Rattle.judge_rules.specs.TelegramRules.{broadcast_needs_reply, control_with_srd, octets_not_allowed, sdn_needs_reply, source_point, unknown_point}
+use Rattle.judge_rules.specs.TelegramRules.{broadcast_needs_reply, control_with_srd, octets_not_allowed, sda_not_allowed, sdn_needs_reply, source_point, unknown_point}
+use Rattle.judge_rules.specs.TokenRules.{broken_by_token, is_slave}
 
 -- a request breaks a rule, by what the entries before it left; limit is the number of retries that are allowed
 abbrev pub broken_by : ℕ → Bus → Station → Request → JudgeRule → Bool
@@ -51,9 +52,11 @@ broken_by limit bus station request rules.ControlNotAsked = control_not_asked bu
 broken_by limit bus station request rules.ControlWithSrd = control_with_srd request
 broken_by limit bus station request rules.SdnNeedsReply = sdn_needs_reply request
 broken_by limit bus station request rules.BroadcastNeedsReply = broadcast_needs_reply request
+broken_by limit bus station request rules.SdaNotAllowed = sda_not_allowed request
 broken_by limit bus station request rules.UnknownPoint = unknown_point request
 broken_by limit bus station request rules.SourcePoint = source_point request
 broken_by limit bus station request rules.OctetsNotAllowed = octets_not_allowed request
+broken_by limit bus station request rules.TokenToSlave = false
 broken_by limit bus station request rules.NoRequest = false
 
 -- octets that are no request of the master break a rule only by their number
@@ -61,10 +64,10 @@ abbrev pub broken_by_stray : Bus → JudgeRule → Bool
 broken_by_stray bus rules.NoRequest = is_stray_often bus
 broken_by_stray bus other = false
 
--- the next entry of a master breaks a rule, after these entries; a token that it passes on breaks none
+-- the next entry of a master breaks a rule, after these entries
 abbrev pub breaks : ℕ → List Entry → Entry → JudgeRule → Bool
 breaks limit past (entries.Request request) rule = broken_by limit (bus_of past) (station_of request.address past) request rule
-breaks limit past entries.PassedToken rule = false
+breaks limit past (entries.PassedToken to) rule = broken_by_token (is_slave to past) rule
 breaks limit past entries.Stray rule = broken_by_stray (bus_of past) rule
 
 -- the rules that it breaks, in their order

@@ -1,6 +1,6 @@
 -- promise
--- What the requests of a master to one station left (own): the last SRD, the stage of the bring-up, and three facts of Data_Exchange and of the
--- watchdog.
+-- What the requests of a master to one station left (own): the last SRD, the stage of the bring-up, three facts of Data_Exchange and of the
+-- watchdog, and whether the station has answered.
 use Rattle.std.specs.Prelude.{ℕ, ◌+◌, ◌==◌, ◌&&◌, ◌||◌, nat_lt, is_some, if◌then◌else◌, Bool, false, List, fold, Option, Some, None}
 use Rattle.judge_rules.specs.declared.entry.Answer.{Answer}
 use Rattle.judge_rules.specs.declared.entry.Asked.{Asked}
@@ -25,7 +25,7 @@ last_of request = record {
 }
 
 abbrev pub new_station : Station
-new_station = record { last = None; stage = stages.Unseen; wrong_length = false; unread = None; watchdog = None }
+new_station = record { last = None; stage = stages.Unseen; wrong_length = false; unread = None; watchdog = None; has_answered = false }
 
 abbrev pub is_acknowledged_prm : Request → Bool
 is_acknowledged_prm request = is_some (prm_asked request) && is_done request.answer
@@ -72,6 +72,7 @@ station_after station request = record {
   wrong_length = wrong_length_after station.wrong_length request;
   unread = unread_after station.unread request;
   watchdog = watchdog_after station.watchdog request;
+  has_answered = station.has_answered || is_answered request.answer;
 }
 
 -- after one more entry: only a request to the station of the address counts

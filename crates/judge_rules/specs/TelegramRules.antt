@@ -31,6 +31,15 @@ is_answered_function other = true
 abbrev pub broadcast_needs_reply : Request → Bool
 broadcast_needs_reply request = request.address == global_address && is_answered_function request.function
 
+-- sda-not-allowed: SDA, since DP maps its services on SRD and SDN only
+abbrev pub is_sda : Function → Bool
+is_sda functions.SdaLow = true
+is_sda functions.SdaHigh = true
+is_sda other = false
+
+abbrev pub sda_not_allowed : Request → Bool
+sda_not_allowed request = is_sda request.function
+
 -- unknown-point: an SRD or an SDN to a point that DP-V0 does not have
 abbrev pub is_unknown : Service → Bool
 is_unknown services.Unknown = true

@@ -2,6 +2,7 @@
 
 ghost use Rattle.std.specs.Prelude.{◌≡◌};
 ghost use Rattle.judge_rules.specs.Rules.{broken_by, broken_by_stray};
+ghost use Rattle.judge_rules.specs.TokenRules.{broken_by_token};
 
 use crate::bring_up_rules::{
     cfg_before_prm, exchange_after_rs, exchange_before_ready, exchange_of_other,
@@ -21,8 +22,8 @@ use crate::parameter_rules::{
 use crate::rule::JudgeRule;
 use crate::station::Station;
 use crate::telegram_rules::{
-    broadcast_needs_reply, control_with_srd, octets_not_allowed, sdn_needs_reply, source_point,
-    unknown_point,
+    broadcast_needs_reply, control_with_srd, octets_not_allowed, sda_not_allowed, sdn_needs_reply,
+    source_point, unknown_point,
 };
 
 /// Returns whether a request breaks the rule, by what the entries before it left.
@@ -68,11 +69,20 @@ pub(crate) fn broken_by(
         JudgeRule::ControlWithSrd => control_with_srd(request),
         JudgeRule::SdnNeedsReply => sdn_needs_reply(request),
         JudgeRule::BroadcastNeedsReply => broadcast_needs_reply(request),
+        JudgeRule::SdaNotAllowed => sda_not_allowed(request),
         JudgeRule::UnknownPoint => unknown_point(request),
         JudgeRule::SourcePoint => source_point(request),
         JudgeRule::OctetsNotAllowed => octets_not_allowed(request),
+        JudgeRule::TokenToSlave => false,
         JudgeRule::NoRequest => false,
     }
+}
+
+/// Returns whether a token that is passed on to the station breaks the rule, by what the entries before it left.
+pub(crate) fn broken_by_token(station: &Station, rule: JudgeRule) -> bool
+    ensures { result ≡ broken_by_token station.now.has_answered rule }
+{
+    matches!(rule, JudgeRule::TokenToSlave) && station.has_answered
 }
 
 /// Returns whether octets that are no request break the rule, by what the entries before them left.

@@ -102,7 +102,7 @@ impl Bus {
     {
         match entry {
             Entry::Request(request) => self.take_request(request),
-            Entry::PassedToken => self.take_token(),
+            Entry::PassedToken(_) => self.take_token(),
             Entry::Stray => {
                 self.last = None;
                 self.retries = 0;

@@ -49,18 +49,18 @@ pub fn one_retry_more_than_the_limit_is_reported()
 /// A passed token after an SRD with FCV 1 changes nothing of `retry-limit`. After a passed token an SRD with FCV 0 is a
 /// new one, whatever was before.
 pub fn a_passed_token_ends_the_retries_of_an_srd_with_fcv_0()
-    ensures valid { (limit : ℕ) (front : List Entry) (before request : Request)
+    ensures valid { (limit to : ℕ) (front : List Entry) (before request : Request)
         → is_srd before ≡ true
         → before.fcv ≡ true
-        → breaks limit (front ++ entries.Request before ∷ entries.PassedToken ∷ []) (entries.Request request) rules.RetryLimit
+        → breaks limit (front ++ entries.Request before ∷ entries.PassedToken to ∷ []) (entries.Request request) rules.RetryLimit
         ≡ breaks limit (front ++ entries.Request before ∷ []) (entries.Request request) rules.RetryLimit }
-    ensures invalid { (limit : ℕ) (front : List Entry) (before request : Request)
+    ensures invalid { (limit to : ℕ) (front : List Entry) (before request : Request)
         → before.fcv ≡ false
-        → breaks limit (front ++ entries.Request before ∷ entries.PassedToken ∷ []) (entries.Request request) rules.RetryLimit
+        → breaks limit (front ++ entries.Request before ∷ entries.PassedToken to ∷ []) (entries.Request request) rules.RetryLimit
         ≡ false }
-    ensures again { (limit : ℕ) (front : List Entry) (request : Request)
-        → breaks limit (front ++ entries.PassedToken ∷ entries.PassedToken ∷ []) (entries.Request request) rules.RetryLimit
-        ≡ breaks limit (front ++ entries.PassedToken ∷ []) (entries.Request request) rules.RetryLimit }
+    ensures again { (limit to next : ℕ) (front : List Entry) (request : Request)
+        → breaks limit (front ++ entries.PassedToken to ∷ entries.PassedToken next ∷ []) (entries.Request request) rules.RetryLimit
+        ≡ breaks limit (front ++ entries.PassedToken to ∷ []) (entries.Request request) rules.RetryLimit }
 {}
 
 /// `outputs-in-clear`: after a Global_Control with Clear_Data to all stations and all groups, and before one without

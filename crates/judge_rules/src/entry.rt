@@ -10,9 +10,9 @@ use dp_telegram::{Function, GLOBAL_ADDRESS, Octets};
 pub enum Entry {
     /// A telegram that is a request of the master.
     Request(Request),
-    /// A token that the master passes on (IEC 61158-4-3, token passing), also one to itself, as a master that is alone in
-    /// the ring passes it. It breaks no rule, and no rule counts it.
-    PassedToken,
+    /// A token that the master passes on to the station of this address, 0 to 126 (IEC 61158-4-3, token passing), also
+    /// one to itself, as a master that is alone in the ring passes it. It is not one of the hundred entries of `no-request`.
+    PassedToken(u8),
     /// Octets that are no request of the master: no frame, a short acknowledgement, a token that is not passed on, a
     /// response, a telegram with the source address of another station, or one without an extension octet that it
     /// announces.

@@ -7,7 +7,7 @@ ghost use Rattle.judge_rules.specs.Judges.{all_stations};
 ghost use Rattle.judge_rules.specs.Stations.{station_of};
 ghost use Rattle.judge_rules.specs.Rules.{breaks};
 
-use crate::broken::{broken_by, broken_by_stray};
+use crate::broken::{broken_by, broken_by_stray, broken_by_token};
 use crate::bus::Bus;
 use crate::entry::Entry;
 use crate::rule::JudgeRule;
@@ -65,7 +65,10 @@ impl MasterJudge {
                 let station = station_in(self.stations.as_slice(), request.address);
                 broken_by(self.retries, &self.bus, station, request, rule)
             }
-            Entry::PassedToken => false,
+            Entry::PassedToken(to) => {
+                let receiver = station_in(self.stations.as_slice(), *to);
+                broken_by_token(receiver, rule)
+            }
             Entry::Stray => broken_by_stray(&self.bus, rule),
         }
     }
@@ -79,7 +82,7 @@ impl MasterJudge {
             Entry::Request(request) => {
                 station_in(self.stations.as_slice(), request.address).last_octets()
             }
-            Entry::PassedToken => None,
+            Entry::PassedToken(_) => None,
             Entry::Stray => None,
         }
     }
@@ -121,7 +124,7 @@ fn take_at(stations: &mut [Station], entry: &Entry)
 {
     match entry {
         Entry::Request(request) => stations[usize::from(request.address)].take(request),
-        Entry::PassedToken => {}
+        Entry::PassedToken(_) => {}
         Entry::Stray => {}
     }
 }

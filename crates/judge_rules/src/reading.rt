@@ -47,7 +47,7 @@ fn entry_of_token(master: u8, da: u8, sa: u8) -> Entry
     ensures { result ≡ entry_of_token master da sa }
 {
     if is_passed_on(master, da, sa) {
-        Entry::PassedToken
+        Entry::PassedToken(da & ADDRESS_BITS)
     } else {
         Entry::Stray
     }

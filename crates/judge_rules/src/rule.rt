@@ -6,7 +6,7 @@ ghost use Rattle.judge_rules.specs.RuleNames.{rule_name, rule_number, rule_sever
 use crate::rule_rows::Severity;
 
 /// The number of rules.
-pub const RULES: usize = 36;
+pub const RULES: usize = 38;
 
 /// A rule that a master is judged by. Its row has its name, its severity, its source, and what it says.
 #[derive(Clone, Copy, Debug, PartialEq, Eq)]
@@ -75,12 +75,16 @@ pub enum JudgeRule {
     SdnNeedsReply,
     /// `broadcast-needs-reply`.
     BroadcastNeedsReply,
+    /// `sda-not-allowed`.
+    SdaNotAllowed,
     /// `unknown-point`.
     UnknownPoint,
     /// `source-point`.
     SourcePoint,
     /// `octets-not-allowed`.
     OctetsNotAllowed,
+    /// `token-to-slave`.
+    TokenToSlave,
     /// `no-request`.
     NoRequest,
 }
@@ -120,9 +124,11 @@ impl JudgeRule {
         JudgeRule::ControlWithSrd,
         JudgeRule::SdnNeedsReply,
         JudgeRule::BroadcastNeedsReply,
+        JudgeRule::SdaNotAllowed,
         JudgeRule::UnknownPoint,
         JudgeRule::SourcePoint,
         JudgeRule::OctetsNotAllowed,
+        JudgeRule::TokenToSlave,
         JudgeRule::NoRequest,
     ];
 

@@ -23,6 +23,8 @@ pub(crate) enum Source {
     Retry,
     /// IEC 61158-4-3, function code of a request.
     FunctionCode,
+    /// IEC 61158-4-3, token passing.
+    TokenPassing,
     /// IEC 61158-4-3, address extension.
     AddressExtension,
     /// IEC 61158-6-3, bring-up of a slave.
@@ -71,6 +73,7 @@ impl Source {
             Source::FrameCountBit => "IEC 61158-4-3, frame count bit",
             Source::Retry => "IEC 61158-4-3, retry",
             Source::FunctionCode => "IEC 61158-4-3, function code of a request",
+            Source::TokenPassing => "IEC 61158-4-3, token passing",
             Source::AddressExtension => "IEC 61158-4-3, address extension",
             Source::BringUp => "IEC 61158-6-3, bring-up of a slave",
             Source::DataExchange => "IEC 61158-6-3, Data_Exchange",
@@ -282,6 +285,12 @@ impl JudgeRule {
                 source: Source::FunctionCode,
                 text: "a function with a reply, to all stations",
             },
+            JudgeRule::SdaNotAllowed => RuleRow {
+                name: "sda-not-allowed",
+                severity: Severity::Error,
+                source: Source::FunctionCode,
+                text: "SDA, and the services of DP are SRD and SDN",
+            },
             JudgeRule::UnknownPoint => RuleRow {
                 name: "unknown-point",
                 severity: Severity::Warning,
@@ -299,6 +308,12 @@ impl JudgeRule {
                 severity: Severity::Error,
                 source: Source::AccessPoints,
                 text: "data in a request that has none: Slave_Diag, Get_Cfg, RD_Inp or RD_Outp",
+            },
+            JudgeRule::TokenToSlave => RuleRow {
+                name: "token-to-slave",
+                severity: Severity::Error,
+                source: Source::TokenPassing,
+                text: "the token to a slave: the station has answered a request, and slaves take no token",
             },
             JudgeRule::NoRequest => RuleRow {
                 name: "no-request",

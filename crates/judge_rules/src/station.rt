@@ -36,6 +36,8 @@ pub(crate) struct Station {
     pub(crate) unread: Option<u8>,
     /// The watchdog time of the last Set_Prm that was acknowledged, in units of 10 ms.
     pub(crate) watchdog: Option<u32>,
+    /// Whether the station has answered a request.
+    pub(crate) has_answered: bool,
 }
 
 impl Last {
@@ -64,6 +66,7 @@ impl Station {
             wrong_length: false,
             unread: None,
             watchdog: None,
+            has_answered: false,
         }
     }
 
@@ -85,6 +88,7 @@ impl Station {
         self.unread = unread_after(self.unread, request);
         self.watchdog = watchdog_after(self.watchdog, request);
         self.stage = self.stage.after(request);
+        self.has_answered = self.has_answered || request.answer.is_answered();
         if request.is_srd() {
             self.last = Some(Last::of(request));
         }

@@ -1,6 +1,7 @@
 //! Laws of the rules that judge a telegram on its own: each is the contract of an empty function.
 
-ghost use Rattle.std.specs.Prelude.{◌≡◌, ◌==◌, ◌≤◌, ◌&&◌, ◌||◌, ℕ, true, false, List, None, Some};
+ghost use Rattle.std.specs.Prelude.{◌≡◌, ◌==◌, ◌≤◌, ◌&&◌, ◌||◌, not, ◌++◌, ◌∷◌, ℕ, true, false, List, None, Some};
+ghost use Rattle.std.specs.List.{list_all};
 ghost use Rattle.dp_telegram.specs.Access.{global_address};
 ghost use Rattle.dp_telegram.specs.declared.function_code.Function.TheVariants as functions;
 ghost use Rattle.dp_telegram.specs.FunctionCode.{asks_sdn};
@@ -12,9 +13,10 @@ ghost use Rattle.judge_rules.specs.declared.entry.Request.{Request};
 ghost use Rattle.judge_rules.specs.declared.entry.Service.TheVariants as services;
 ghost use Rattle.judge_rules.specs.declared.rule.JudgeRule.{JudgeRule};
 ghost use Rattle.judge_rules.specs.declared.rule.JudgeRule.TheVariants as rules;
-ghost use Rattle.judge_rules.specs.Entries.{control_asked, is_none_selected, is_srd, prm_asked};
+ghost use Rattle.judge_rules.specs.Entries.{control_asked, is_answered, is_none_selected, is_srd, prm_asked};
 ghost use Rattle.judge_rules.specs.LawWords.{is_of_the_telegram};
 ghost use Rattle.judge_rules.specs.TelegramRules.{has_reply, is_answered_function};
+ghost use Rattle.judge_rules.specs.TokenRules.{is_answered_by};
 ghost use Rattle.judge_rules.specs.Rules.{breaks};
 
 /// Whether a request breaks one of these rules depends neither on the entries before it nor on the number of
@@ -25,16 +27,49 @@ pub fn what_lies_before_a_telegram_does_not_matter()
         → breaks limit past (entries.Request request) rule ≡ breaks other before (entries.Request request) rule }
 {}
 
-/// A token that is passed on breaks no rule. Octets that are no request break no rule but `no-request`, which no
-/// request breaks.
+/// A token that is passed on breaks no rule but `token-to-slave`, and octets that are no request break no rule but
+/// `no-request`. No request breaks one of these two.
 pub fn only_requests_break_the_other_rules()
-    ensures token { (limit : ℕ) (past : List Entry) (rule : JudgeRule)
-        → breaks limit past entries.PassedToken rule ≡ false }
+    ensures token { (limit to : ℕ) (past : List Entry) (rule : JudgeRule)
+        → breaks limit past (entries.PassedToken to) rule ≡ true
+        → rule ≡ rules.TokenToSlave }
     ensures stray { (limit : ℕ) (past : List Entry) (rule : JudgeRule)
         → breaks limit past entries.Stray rule ≡ true
         → rule ≡ rules.NoRequest }
     ensures request { (limit : ℕ) (past : List Entry) (request : Request)
         → breaks limit past (entries.Request request) rules.NoRequest ≡ false }
+    ensures no_token { (limit : ℕ) (past : List Entry) (request : Request)
+        → breaks limit past (entries.Request request) rules.TokenToSlave ≡ false }
+{}
+
+/// `token-to-slave`: a token that is passed on is reported exactly if the station that it is passed to is a slave:
+/// it answered a request of the master, which no other master of a rack does.
+pub fn the_token_goes_to_no_slave()
+    ensures slave { (limit : ℕ) (front back : List Entry) (request : Request)
+        → is_answered request.answer ≡ true
+        → breaks limit (front ++ entries.Request request ∷ back) (entries.PassedToken request.address) rules.TokenToSlave ≡ true }
+    ensures other { (limit to : ℕ) (past : List Entry)
+        → list_all (λ entry. not (is_answered_by to entry)) past ≡ true
+        → breaks limit past (entries.PassedToken to) rules.TokenToSlave ≡ false }
+{}
+
+/// `sda-not-allowed`: a request is reported exactly if its function is SDA, of low or high priority.
+pub fn dp_uses_no_sda()
+    ensures low { (limit : ℕ) (past : List Entry) (request : Request)
+        → request.function ≡ functions.SdaLow
+        → breaks limit past (entries.Request request) rules.SdaNotAllowed ≡ true }
+    ensures high { (limit : ℕ) (past : List Entry) (request : Request)
+        → request.function ≡ functions.SdaHigh
+        → breaks limit past (entries.Request request) rules.SdaNotAllowed ≡ true }
+    ensures srd { (limit : ℕ) (past : List Entry) (request : Request)
+        → is_srd request ≡ true
+        → breaks limit past (entries.Request request) rules.SdaNotAllowed ≡ false }
+    ensures sdn { (limit : ℕ) (past : List Entry) (request : Request)
+        → asks_sdn request.function ≡ true
+        → breaks limit past (entries.Request request) rules.SdaNotAllowed ≡ false }
+    ensures status { (limit : ℕ) (past : List Entry) (request : Request)
+        → request.function ≡ functions.FdlStatus
+        → breaks limit past (entries.Request request) rules.SdaNotAllowed ≡ false }
 {}
 
 /// `fcb-not-allowed`: an SDN, and a request for the FDL status, the ident or the LSAP status, is reported exactly if

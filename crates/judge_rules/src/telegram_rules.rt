@@ -1,7 +1,7 @@
 //! The rules of a telegram on its own: its function, its point, and its destination.
 
 ghost use Rattle.std.specs.Prelude.{◌≡◌};
-ghost use Rattle.judge_rules.specs.TelegramRules.{broadcast_needs_reply, control_with_srd, has_no_data, has_reply, is_answered_function, is_asked_by_62, is_global_control, is_point_62, is_unknown, octets_not_allowed, sdn_needs_reply, source_point, unknown_point};
+ghost use Rattle.judge_rules.specs.TelegramRules.{broadcast_needs_reply, control_with_srd, has_no_data, has_reply, is_answered_function, is_asked_by_62, is_global_control, is_point_62, is_sda, is_unknown, octets_not_allowed, sda_not_allowed, sdn_needs_reply, source_point, unknown_point};
 
 use crate::entry::{Request, Service};
 use crate::services::MASTER_POINT;
@@ -19,6 +19,20 @@ pub(crate) fn broadcast_needs_reply(request: &Request) -> bool
     ensures { result ≡ broadcast_needs_reply request.now }
 {
     request.address == GLOBAL_ADDRESS && is_answered_function(request.function)
+}
+
+/// Returns whether the function is SDA, which no service of DP uses.
+pub(crate) fn sda_not_allowed(request: &Request) -> bool
+    ensures { result ≡ sda_not_allowed request.now }
+{
+    is_sda(request.function)
+}
+
+/// Returns whether the function is SDA, of either priority.
+fn is_sda(function: Function) -> bool
+    ensures { result ≡ is_sda function }
+{
+    matches!(function, Function::SdaLow | Function::SdaHigh)
 }
 
 /// Returns whether an SRD or an SDN names a point that DP-V0 does not have.

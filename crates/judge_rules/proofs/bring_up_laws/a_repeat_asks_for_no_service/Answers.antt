@@ -97,7 +97,7 @@ all address s t [] agree = agree
 all address s t (entries.Request r ∷ back) agree =
     all address (station_with address s (entries.Request r)) (station_with address t (entries.Request r)) back
     (either (r.address == address) (station_after s r) (station_after t r) s t (next s t r agree) agree)
-all address s t (entries.PassedToken ∷ back) agree = all address s t back agree
+all address s t (entries.PassedToken to ∷ back) agree = all address s t back agree
 all address s t (entries.Stray ∷ back) agree = all address s t back agree
 
 unchanged : (s : Station) (r : Request) → is_served r ≡ false → Agrees (station_after s r) s

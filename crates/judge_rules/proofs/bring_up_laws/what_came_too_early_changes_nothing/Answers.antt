@@ -47,7 +47,7 @@ all address s t [] same = same
 all address s t (entries.Request r ∷ back) same =
     all address (station_with address s (entries.Request r)) (station_with address t (entries.Request r)) back
     (either (r.address == address) (station_after s r) (station_after t r) s t (ap (λ (stage : Stage). stage_after stage r) same) same)
-all address s t (entries.PassedToken ∷ back) same = all address s t back same
+all address s t (entries.PassedToken to ∷ back) same = all address s t back same
 all address s t (entries.Stray ∷ back) same = all address s t back same
 
 left : (at : Bool) (s after : Station) → (at ≡ true → after.stage ≡ s.stage) → (if at then after else s).stage ≡ s.stage

@@ -29,18 +29,18 @@ twice None = refl
 twice (Some last) = twice_by last.fcv last refl
 
 pub returns-clause-valid : goal.returns-clause-valid
-returns-clause-valid c limit front before request is valid =
-    ap (λ (b : Bus). retry_limit limit b request) (fold-append bus_after new_bus front (entries.Request before ∷ entries.PassedToken ∷ []))
+returns-clause-valid c limit to front before request is valid =
+    ap (λ (b : Bus). retry_limit limit b request) (fold-append bus_after new_bus front (entries.Request before ∷ entries.PassedToken to ∷ []))
     ∙ ap (λ (l : Option Last). is_retry l request && ((bus_after_request (bus_of front) before).retries == limit)) (kept (is_srd before) (last_of before) is valid)
     ∙ sym (ap (λ (b : Bus). retry_limit limit b request) (bus_more front (entries.Request before)))
 
 pub returns-clause-invalid : goal.returns-clause-invalid
-returns-clause-invalid c limit front before request invalid =
-    ap (λ (b : Bus). retry_limit limit b request) (fold-append bus_after new_bus front (entries.Request before ∷ entries.PassedToken ∷ []))
+returns-clause-invalid c limit to front before request invalid =
+    ap (λ (b : Bus). retry_limit limit b request) (fold-append bus_after new_bus front (entries.Request before ∷ entries.PassedToken to ∷ []))
     ∙ ap (λ (l : Option Last). is_retry l request && ((bus_after_request (bus_of front) before).retries == limit)) (dropped (is_srd before) (last_of before) invalid)
 
 pub returns-clause-again : goal.returns-clause-again
-returns-clause-again c limit front request =
-    ap (λ (b : Bus). retry_limit limit b request) (fold-append bus_after new_bus front (entries.PassedToken ∷ entries.PassedToken ∷ []))
+returns-clause-again c limit to next front request =
+    ap (λ (b : Bus). retry_limit limit b request) (fold-append bus_after new_bus front (entries.PassedToken to ∷ entries.PassedToken next ∷ []))
     ∙ ap (λ (l : Option Last). is_retry l request && ((bus_of front).retries == limit)) (twice (bus_of front).last)
-    ∙ sym (ap (λ (b : Bus). retry_limit limit b request) (bus_more front entries.PassedToken))
+    ∙ sym (ap (λ (b : Bus). retry_limit limit b request) (bus_more front (entries.PassedToken to)))
