@@ -38,7 +38,7 @@ A rack is the program `rackd serve`, which ends with the `with` statement or wit
         journal.refused()[0].reason["holder"]           # a fact of the reason, here of its kind NotHolder
         journal.explained.holds                         # also counts, stations, polls and verdict
         print(journal.explain(faults=True, slave=5))    # also first, last, master, refused, summary
-        journal.judge(master=1)                         # what this master did that the standard rules out
+        journal.judge(master=1)                         # what it did that the standard rules out, or did not try
         journal.time_of(3)                              # when entry 3 was recorded by the clock, as 12:30:01.207
         line.why(3).sentence                            # why entry 3 has its outcome; in process also its facts
 
@@ -57,7 +57,7 @@ from .faults import (UE, RR, RS, BadEnd, BadFrame, BadHead, Halted, Long, NoProg
                      NotACommand, NotAccepted, NotLegal, OperatorRefused, RackError, RackFault, Refused, SessionEnded,
                      Short, SlaveRefused, TooLong, TooMany, UnknownPoint, WrongLength)
 from .frames import Frame
-from .journal import Finding, Journal
+from .journal import Finding, Journal, Untested
 from .master import Diagnosis, Master
 from .operator import Operator, Show, State
 from .port import Port
@@ -68,9 +68,9 @@ from .times import EntryTime, EntryTimes
 __all__ = [
     "UE", "RR", "RS", "Answer", "BadEnd", "BadFrame", "BadHead", "Cable", "Change", "Condition", "Decoded",
     "Diagnosis", "EmbeddedLine", "EmbeddedRack", "Entry", "EntryTime", "EntryTimes", "Event", "Explained", "Facts",
-    "Finding", "Frame", "Halted", "Hold", "Journal", "Line", "Long", "Master", "NoProgram", "NoReply", "NoStart", "NoStation", "NotACommand",
-    "NotAccepted", "NotLegal", "Operator", "OperatorRefused", "Part", "Poll", "Port", "Rack", "RackError",
-    "RackFault", "Reason", "Refused", "Release", "RunningCable", "SAMPLE", "SessionEnded", "Short", "Show",
-    "SlaveRefused", "State", "StationCount", "TooLong", "TooMany", "UnknownPoint", "Verdict", "WayCount", "Why",
-    "WrongLength",
+    "Finding", "Frame", "Halted", "Hold", "Journal", "Line", "Long", "Master", "NoProgram", "NoReply", "NoStart",
+    "NoStation", "NotACommand", "NotAccepted", "NotLegal", "Operator", "OperatorRefused", "Part", "Poll", "Port",
+    "Rack", "RackError", "RackFault", "Reason", "Refused", "Release", "RunningCable", "SAMPLE", "SessionEnded",
+    "Short", "Show", "SlaveRefused", "State", "StationCount", "TooLong", "TooMany", "UnknownPoint", "Untested",
+    "Verdict", "WayCount", "Why", "WrongLength",
 ]

@@ -6,7 +6,7 @@ import json
 import os
 import subprocess
 from dataclasses import dataclass
-from typing import BinaryIO, Iterator, List, Optional, Sequence, Tuple
+from typing import BinaryIO, ClassVar, Iterator, List, Optional, Sequence, Tuple, Union
 
 from .explained import Entry, Explained, explained_of
 from .faults import RackError, RackFault
@@ -32,6 +32,28 @@ class Finding:
     text: str
     octets: bytes
     before: Optional[bytes]
+
+
+@dataclass(frozen=True)
+class Untested:
+    """That too little was done for a verdict on a master, with the keys of `rackd judge --json` (docs/reference/judge.md).
+
+    Either `master` sent only so many `requests`, or only so many `exchanges` of all judged masters were answered. The other
+    keys are None. At least `at_least` were required. `rule` is `untested`.
+    """
+
+    master: Optional[int]
+    requests: Optional[int]
+    exchanges: Optional[int]
+    at_least: int
+    rule: ClassVar[str] = "untested"
+
+
+def untested_of(output: bytes) -> List[Untested]:
+    """Returns what is untested by the output of `rackd judge --json`: the masters, and then the exchanges."""
+    rows = [json.loads(row).get("untested") for row in output.splitlines()]
+    return [Untested(master=keys.get("master"), requests=keys.get("requests"), exchanges=keys.get("exchanges"),
+                     at_least=keys["at_least"]) for keys in rows if keys is not None]
 
 
 def findings_of(output: bytes) -> Tuple[List[Finding], str]:
@@ -102,17 +124,22 @@ class Journal:
         return self._times.time_of(place)
 
     def judge(self, *, master: Optional[int] = None, rules: Sequence[str] = (),
-              retries: Optional[int] = None) -> List[Finding]:
-        """Returns what the masters did that the standard rules out, in the order of the places.
+              retries: Optional[int] = None, requests_at_least: Optional[int] = None,
+              exchanges_at_least: Optional[int] = None, allow_untested: bool = False) -> List[Union[Finding, Untested]]:
+        """Returns what the masters did that the standard rules out, in the order of the places, and what is untested.
 
         With `master` only this one is judged, with `rules` only by these; `retries` is how many retries a request may
-        have, 3 by default. Raises RackFault if there is no such rule, if the journal is not legal, or if the rack has
-        deleted its first part.
+        have, 3 by default. An empty list means that something was tested: each master has sent `requests_at_least`
+        requests, and `exchanges_at_least` Data_Exchanges of all of them were answered, 1 by default. If not, the list ends
+        with an Untested for each master, and for the exchanges; `allow_untested` leaves these out.
+
+        Raises RackFault if there is no such rule, if the journal is not legal, or if the rack has deleted its first part.
         """
         words = ["--json"]
         if rules:
             words += ["--rules", ",".join(rules)]
-        for name, number in (("master", master), ("retries", retries)):
+        for name, number in (("master", master), ("retries", retries), ("requests-at-least", requests_at_least),
+                             ("exchanges-at-least", exchanges_at_least)):
             if number is not None:
                 words += [f"--{name}", str(number)]
         done = self._read_by("judge", *words)
@@ -120,7 +147,7 @@ class Journal:
         if verdict != "legal":
             raise RackFault(f"rackd judge cannot read this journal: {verdict or 'no verdict'}", done.returncode,
                             rows_of(done.stderr))
-        return findings
+        return [*findings, *([] if allow_untested else untested_of(done.stdout))]
 
     def _explained(self, *words: str) -> str:
         return self._read_by("explain", *words).stdout.decode()
