@@ -1,4 +1,4 @@
-"""Masters that did too little: a verdict on them is worth nothing, and `rackd judge` says so."""
+"""Masters that did too little for a verdict: `rackd judge` reports what is untested."""
 import json
 import xml.etree.ElementTree as xml
 

@@ -1,5 +1,5 @@
 -- detail
--- What a master did that makes a verdict on it worth something, and what is missing of it (own).
+-- How much a master did, and what is untested (own).
 use Rattle.std.specs.Prelude.{codes, ℕ, ◌+◌, ◌-◌, ◌^◌, ◌||◌, min, nat_lt, if◌then◌else◌, Bool, false, true, List, [], ◌++◌, fold, Option, Some, None}
 use Rattle.std.specs.List.{flat_map, list_any}
 use Rattle.std.specs.Fmt.{decimal}
@@ -28,7 +28,7 @@ tested_after (entries.Request request) tested = with_request (is_exchanged reque
 tested_after entries.PassedToken tested = tested
 tested_after entries.Stray tested = tested
 
--- ---- what is missing
+-- ---- what is untested
 
 -- a master has sent fewer requests than this
 abbrev pub lacks_requests : Least → Seat → Bool

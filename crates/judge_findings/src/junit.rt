@@ -31,7 +31,7 @@ pub struct Junit<'a> {
     pub rules: &'a [JudgeRule],
     /// The verdict on the text.
     pub verdict: JunitVerdict,
-    /// How much has to be done, so that a master is tested.
+    /// How much the masters must do; a test case of what is untested is skipped.
     pub least: Least,
 }
 
@@ -73,7 +73,7 @@ impl Junit<'_> {
         self.seats.len().saturating_mul(of_master).saturating_add(2)
     }
 
-    /// Returns the number of test cases that are skipped, since too little was done.
+    /// Returns the number of test cases that are skipped, since something is untested.
     fn skipped(&self) -> usize {
         let mut skipped: usize = 0;
         if exchanges_of(self.seats) < self.least.exchanges {
@@ -124,7 +124,7 @@ impl fmt::Display for TextCase {
     }
 }
 
-/// The test case of the Data_Exchanges that were answered: it is skipped if they are fewer than are wanted.
+/// The test case of the Data_Exchanges that were answered: it is skipped if they are fewer than are required.
 #[derive(Clone, Copy)]
 struct ExchangesCase<'a> {
     seats: &'a [Seat],
@@ -144,7 +144,7 @@ impl<'a> fmt::Display for ExchangesCase<'a> {
     }
 }
 
-/// The test case of the requests of a master: it is skipped if they are fewer than are wanted.
+/// The test case of the requests of a master: it is skipped if they are fewer than are required.
 #[derive(Clone, Copy)]
 struct RequestsCase<'a> {
     seat: &'a Seat,

@@ -93,7 +93,7 @@ impl LineJudge {
         any_error(self.seats.as_slice(), rules)
     }
 
-    /// Returns whether a master sent fewer requests than are wanted, or fewer Data_Exchanges of the masters were answered.
+    /// Returns whether a master sent fewer requests than are required, or fewer Data_Exchanges of the masters were answered.
     pub fn is_untested(&self, least: Least) -> bool
         ensures { result ≡ is_untested least self.now.seats }
     {

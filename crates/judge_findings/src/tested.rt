@@ -1,4 +1,4 @@
-//! What a master did that makes a verdict on it worth something.
+//! How much a master did: a verdict on a master that did nothing means nothing.
 
 ghost use Rattle.std.specs.Prelude.{◌≡◌};
 ghost use Rattle.judge_rules.specs.Entries.{is_exchanged};
@@ -7,21 +7,21 @@ ghost use Rattle.judge_findings.specs.Tested.{tested_after, with_request};
 use judge_rules::{Entry, Request};
 
 /// How many requests a master sent, and how many of its Data_Exchanges were answered with data, or acknowledged by a slave
-/// without inputs. Each is at most the largest number of 64 bits.
+/// without inputs. Both stop at the largest number of 64 bits.
 #[derive(Clone, Copy, Debug, PartialEq, Eq)]
 pub struct Tested {
-    /// The requests; octets that are no request, and tokens, are none.
+    /// The requests. Octets that are no request, and tokens, are not counted.
     pub requests: u64,
-    /// The answered Data_Exchanges; a request that is sent again is none.
+    /// The answered Data_Exchanges. One that the slave answers as a repeat is not counted.
     pub exchanges: u64,
 }
 
-/// How much has to be done so that a verdict is worth something.
+/// How much the judged masters must do; if they do less, something is untested.
 #[derive(Clone, Copy, Debug, PartialEq, Eq)]
 pub struct Least {
-    /// The requests of each master that is judged.
+    /// The requests that each judged master must send.
     pub requests: u64,
-    /// The answered Data_Exchanges of all masters that are judged, together.
+    /// The Data_Exchanges of all judged masters together that must be answered.
     pub exchanges: u64,
 }
 

@@ -1,4 +1,4 @@
-//! What is missing so that a verdict is worth something, as rows and as lines of JSON.
+//! What is untested, as rows and as lines of JSON.
 
 ghost use Rattle.std.specs.Prelude.{◌≡◌, Some};
 ghost use Rattle.std.specs.List.{flat_map, list_any};
@@ -8,21 +8,21 @@ use crate::seat::Seat;
 use crate::tested::Least;
 use std::fmt;
 
-/// Returns whether one of these masters sent fewer requests than are wanted, or fewer of their Data_Exchanges were answered.
+/// Returns whether one of these masters sent fewer requests than are required, or fewer of their Data_Exchanges were answered.
 pub(crate) fn is_untested(seats: &[Seat], least: Least) -> bool
     ensures { result ≡ is_untested least seats.now }
 {
     any_lacks(seats, least) || exchanges_of(seats) < least.exchanges
 }
 
-/// Returns whether one of these masters sent fewer requests than are wanted.
+/// Returns whether one of these masters sent fewer requests than are required.
 fn any_lacks(seats: &[Seat], least: Least) -> bool
     ensures { result ≡ list_any (lacks_requests least) seats.now }
 {
     seats.iter().any(|seat| lacks_requests(seat, least))
 }
 
-/// Returns whether a master sent fewer requests than are wanted.
+/// Returns whether a master sent fewer requests than are required.
 pub(crate) fn lacks_requests(seat: &Seat, least: Least) -> bool
     ensures { result ≡ lacks_requests least seat.now }
 {
@@ -42,13 +42,13 @@ pub(crate) fn exchanges_of(seats: &[Seat]) -> u64
     sum
 }
 
-/// What is missing, as rows: `  master 2 untested: requests 0, at least 1`, and behind those of masters
+/// What is untested, as rows: `  master 2 untested: requests 0, at least 1`, and behind those of masters
 /// `  untested: exchanges 0, at least 1`.
 #[derive(Clone, Copy)]
 pub struct UntestedRows<'a> {
     /// The masters.
     pub seats: &'a [Seat],
-    /// What is wanted; None if the text is not legal, and then there are no rows.
+    /// What is required; None if the text is not legal, and then there are no rows.
     pub least: Option<Least>,
 }
 
@@ -90,7 +90,7 @@ impl<'a> fmt::Display for MasterRows<'a> {
     }
 }
 
-/// The row of a master; nothing if it sent as many requests as are wanted.
+/// The row of a master; nothing if it sent as many requests as are required.
 #[derive(Clone, Copy)]
 struct MasterRow<'a> {
     seat: &'a Seat,
@@ -115,7 +115,7 @@ impl<'a> fmt::Display for MasterRow<'a> {
     }
 }
 
-/// The row of the line; nothing if as many Data_Exchanges were answered as are wanted.
+/// The row of the exchanges; nothing if as many Data_Exchanges were answered as are required.
 #[derive(Clone, Copy)]
 struct LineRow<'a> {
     seats: &'a [Seat],
@@ -136,7 +136,7 @@ impl<'a> fmt::Display for LineRow<'a> {
     }
 }
 
-/// How many there were, and how many are wanted, in words.
+/// How many there were, and how many are required, in words.
 #[derive(Clone, Copy)]
 pub(crate) struct AtLeastWords {
     pub(crate) count: u64,
@@ -152,13 +152,13 @@ impl fmt::Display for AtLeastWords {
     }
 }
 
-/// What is missing, as lines of JSON: `{"untested":{"master":2,"requests":0,"at_least":1}}`, and behind those of masters
+/// What is untested, as lines of JSON: `{"untested":{"master":2,"requests":0,"at_least":1}}`, and behind those of masters
 /// `{"untested":{"exchanges":0,"at_least":1}}`.
 #[derive(Clone, Copy)]
 pub struct UntestedLines<'a> {
     /// The masters.
     pub seats: &'a [Seat],
-    /// What is wanted; None if the text is not legal, and then there are no lines.
+    /// What is required; None if the text is not legal, and then there are no lines.
     pub least: Option<Least>,
 }
 
@@ -200,7 +200,7 @@ impl<'a> fmt::Display for MasterLines<'a> {
     }
 }
 
-/// The line of a master; nothing if it sent as many requests as are wanted.
+/// The line of a master; nothing if it sent as many requests as are required.
 #[derive(Clone, Copy)]
 struct MasterLine<'a> {
     seat: &'a Seat,
@@ -225,7 +225,7 @@ impl<'a> fmt::Display for MasterLine<'a> {
     }
 }
 
-/// The line of the bus line; nothing if as many Data_Exchanges were answered as are wanted.
+/// The line of the exchanges; nothing if as many Data_Exchanges were answered as are required.
 #[derive(Clone, Copy)]
 struct LineLine<'a> {
     seats: &'a [Seat],
@@ -246,7 +246,7 @@ impl<'a> fmt::Display for LineLine<'a> {
     }
 }
 
-/// That fewer Data_Exchanges were answered than are wanted, as a line of JSON.
+/// That fewer Data_Exchanges were answered than are required, as a line of JSON.
 #[derive(Clone, Copy)]
 struct ExchangesLine {
     count: u64,

@@ -111,7 +111,7 @@ summary_rows rules least seats = codes "findings\n" ++ flat_map (rows_of_seat ru
 abbrev pub summary_lines : List JudgeRule → Option Least → List Seat → List ℕ
 summary_lines rules least seats = flat_map (lines_of_seat rules) seats ++ untested_lines least seats
 
--- what is missing of the test is only told of a legal text
+-- what is untested is only written of a legal text
 abbrev pub least_if : Result ℕ AuditFault → Least → Option Least
 least_if (Ok entries) least = Some least
 least_if (Err fault) least = None
@@ -125,11 +125,11 @@ ending_in forms.Junit rules least seats verdict = None
 abbrev pub has_errors : List JudgeRule → List Seat → Bool
 has_errors rules seats = list_any (λ seat. has_error seat.counts rules) seats
 
--- .. or too little was done, unless that is allowed
+-- there is an error, or something is untested and that is not allowed
 abbrev pub fails : JudgeChoice → List Seat → Bool
 fails choice seats = has_errors choice.rules.now seats || not choice.allows_untested && is_untested choice.least seats
 
--- 1 if there is an error, or too little was done, or the text is not legal; otherwise 0
+-- 1 if it fails, or the text is not legal; otherwise 0
 abbrev pub exit_status : Bool → Result ℕ AuditFault → ℕ
 exit_status true verdict = 1
 exit_status false verdict = verdict_status verdict

@@ -25,8 +25,8 @@ pub struct JudgeChoice<'a> {
     pub retries: u8,
     /// How the findings are written.
     pub form: Form,
-    /// How much the masters have to do, so that a verdict on them is worth something.
+    /// How much the masters must do; if they do less, something is untested.
     pub least: Least,
-    /// Whether masters that did less are no reason for the exit status 1.
+    /// Whether the exit status may be 0 although something is untested.
     pub allows_untested: bool,
 }

@@ -19,7 +19,7 @@ use std::fmt;
 use std::io::Write;
 
 /// Writes the summary of a text with this verdict, and the verdict. Returns the exit status: 0 if the text is legal, no
-/// master broke a rule whose severity is error, and enough was done or that is not asked for; else 1.
+/// master broke a rule whose severity is error, and nothing is untested or that is allowed; else 1.
 pub(crate) fn write_end<W: Write>(
     judge: &LineJudge,
     verdict: Result<u32, AuditFault>,
@@ -58,7 +58,7 @@ fn write_ending<W: Write>(
     }
 }
 
-/// Returns how much has to be done, if the text is legal: what is missing of it is only told then.
+/// Returns how much must be done, if the text is legal: what is untested is only written of a legal text.
 fn least_if(verdict: Result<u32, AuditFault>, least: Least) -> Option<Least>
     ensures { result ≡ least_if verdict least }
 {
@@ -68,14 +68,14 @@ fn least_if(verdict: Result<u32, AuditFault>, least: Least) -> Option<Least>
     }
 }
 
-/// Returns whether a master broke a rule whose severity is error, or too little was done, unless that is allowed.
+/// Returns whether a master broke a rule whose severity is error, or something is untested and that is not allowed.
 fn fails(judge: &LineJudge, choice: &JudgeChoice<'_>) -> bool
     ensures { result ≡ fails choice.now judge.now.seats }
 {
     judge.has_error(choice.rules) || (!choice.allows_untested && judge.is_untested(choice.least))
 }
 
-/// What a summary is made of: the masters, the rules, and how much has to be done, if the text is legal.
+/// What a summary is made of: the masters, the rules, and how much must be done, if the text is legal.
 #[derive(Clone, Copy)]
 struct Summary<'a> {
     seats: &'a [Seat],
@@ -198,8 +198,8 @@ fn write_verdict_line<W: Write>(
     write_bytes(text.as_bytes(), writer)
 }
 
-/// Returns the exit status of a text with this verdict. `fails` is whether a rule whose severity is error was
-/// broken, or too little was done.
+/// Returns the exit status of a text with this verdict. `fails` is whether there is an error, or something is untested
+/// and that is not allowed.
 fn status_of(fails: bool, verdict: Result<u32, AuditFault>) -> u8
     ensures { result ≡ exit_status fails verdict }
 {

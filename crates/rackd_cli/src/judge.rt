@@ -35,7 +35,7 @@ const USUAL_RETRIES: u8 = 3;
 /// The greatest number of requests and of Data_Exchanges that may be asked for: that of the entries of a text.
 const MOST_ENTRIES: u64 = 4_294_967_295;
 
-/// The requests and the Data_Exchanges that are wanted if the words name no number.
+/// The requests and the Data_Exchanges that are required if the words name no number.
 const USUAL_LEAST: u32 = 1;
 
 /// How many names of rules a row of a message has.
@@ -55,11 +55,11 @@ of the rule and what it says, and a row with the octets of the telegram; for fcb
 one with those of the telegram before. Then follow how often each master broke each rule, and the
 result of 'check'. The text is judged to its first wrong line.
 
-A verdict is only worth something if something was tried. So a master that sent no request is
-untested, and all masters are if none of their Data_Exchanges was answered: the summary says so.
+A run without findings shows nothing if the masters did nothing. So the summary also reports what is
+untested: a master that sent no request, and a line on which no Data_Exchange was answered.
 
-The exit status is 1 if the text is not legal, if a rule whose severity is error was broken, or if a
-master is untested and --allow-untested is not given; and else 0.
+The exit status is 1 if the text is not legal, if a rule whose severity is error was broken, or if
+something is untested and --allow-untested is not given. Otherwise it is 0.
 
 Rules (docs/reference/judge.md says what each one reports):
   fcb-repeated, fcb-not-alternated, fcb-first, fcv-not-set, fcb-not-allowed, retry-limit,
@@ -71,7 +71,7 @@ Rules (docs/reference/judge.md says what each one reports):
   source-point, octets-not-allowed, no-request
 
 With --json each finding is a line of JSON. With --junit standard output is JUnit XML, with one test
-case for each rule and master, and one for the text. What is untested is skipped there.
+case for each rule and master, and one for the text. A test case of what is untested is skipped.
 
 Examples:
   rackd judge examples/audit-rack.toml examples/audit.txt
@@ -87,12 +87,12 @@ const WITHOUT_HELP: &str = "Leave these rules out, separated by commas";
 
 const RETRIES_HELP: &str = "Retries of a request that gets no answer: 0 to 15 [default: 3]";
 
-const REQUESTS_HELP: &str = "Requests that each master has to send: 0 to 4294967295 [default: 1]";
+const REQUESTS_HELP: &str = "Requests that each master must send: 0 to 4294967295 [default: 1]";
 
 const EXCHANGES_HELP: &str =
-    "Answered Data_Exchanges that are wanted, of all masters together [default: 1]";
+    "Data_Exchanges that must be answered, of all masters [default: 1]";
 
-const ALLOW_UNTESTED_HELP: &str = "Exit with 0 even if a master is untested";
+const ALLOW_UNTESTED_HELP: &str = "Exit with 0 even if something is untested";
 
 const JSON_HELP: &str = "Print each finding as a line of JSON";
 
@@ -122,11 +122,11 @@ pub struct Judging<'a> {
     pub retries: u8,
     /// How findings are printed.
     pub findings: Findings,
-    /// The requests that each master has to send, so that it is tested.
+    /// The requests that each master must send, 0 to 4,294,967,295; with fewer it is untested.
     pub requests: u32,
-    /// The Data_Exchanges of all masters that have to be answered, so that they are tested.
+    /// The Data_Exchanges of all masters together that must be answered, 0 to 4,294,967,295; with fewer the line is untested.
     pub exchanges: u32,
-    /// Whether a master that is not tested is no reason for the exit status 1.
+    /// Whether the exit status may be 0 although something is untested.
     pub allows_untested: bool,
 }
 
