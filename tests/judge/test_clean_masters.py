@@ -44,6 +44,8 @@ CLEAN = {
     "waits for another master": waits_for_another_master(),
     "stray octets now and then": ["m 1 e5", "m 1 e5", *[status(9)] * 120] * 5,
     "passes the token on": passes_the_token_on(),
+    # A station that has not answered may be a master that is about to enter the ring.
+    "passes the token to stations that have not answered": [*bring_up(), exchange(), status(9), *["m 1 dc 09 01", "m 1 dc 06 01"] * 3],
     "is alone in the ring": ["m 1 dc 01 01"] * 200,
     # A Global_Control restarts the watchdog of the slaves that it selects.
     "keeps the watchdog running by Global_Control": [*WATCHED, exchange(), *["tick 9", control(0)] * 5, exchange()],

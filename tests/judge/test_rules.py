@@ -21,6 +21,8 @@ LATER = diag(9, fc=FCB_1)
 # Tokens of master 1: to itself, and to master 2. A short acknowledgement, and a response with the source of master 1.
 OWN_TOKEN, TOKEN = "m 1 dc 01 01", "m 1 dc 02 01"
 SHORT_ACK, RESPONSE = "m 1 e5", "m 1 10 05 01 08 0e 16"
+# Function codes of SDA, which no service of DP uses.
+SDA_LOW, SDA_HIGH = 0x43, 0x45
 
 
 class Broken(NamedTuple):
@@ -68,9 +70,13 @@ BROKEN = [
     Broken("control-with-srd", [*CLEAN, Request(5, 58, b"\0\0")], [6]),
     Broken("sdn-needs-reply", [prm(fc=0x44)], [1]),
     Broken("broadcast-needs-reply", [status(127)], [1]),
+    # A slave answers SDA by RS. It is not asked for a service by it, and counts no frame by it.
+    Broken("sda-not-allowed", [*CLEAN, exchange(fc=SDA_LOW), diag(fc=SDA_HIGH)], [6, 7]),
     Broken("unknown-point", [Request(5, 51, b"\x01")], [1]),
     Broken("source-point", [diag(), get_cfg()._replace(ssap=None), get_cfg()._replace(ssap=61)], [2, 3]),
     Broken("octets-not-allowed", [Request(5, point, b"\1") for point in (60, 59, 56, 57)], [1, 2, 3, 4]),
+    # Nobody has address 9, and slave 6 has not answered yet.
+    Broken("token-to-slave", ["m 1 dc 05 01", *CLEAN, "m 1 dc 05 01", status(9), "m 1 dc 09 01", "m 1 dc 06 01"], [7]),
     # Tokens to itself are right.
     Broken("no-request", [*[OWN_TOKEN] * 5, *[SHORT_ACK] * 3, RESPONSE, SHORT_ACK], [9]),
 ]
@@ -124,6 +130,13 @@ FURTHER = {
     "SRD to all stations": (
         [diag(127, fc=FCB_1), diag(127, fc=FCB_1), exchange(slave=127, fc=FCB_1)],
         [("broadcast-needs-reply", 1, place) for place in (1, 2, 3)]),
+    # Each token to a slave is reported, also after a refusal; those of another master count for that one only.
+    "tokens to slaves": (
+        [get_cfg(), "m 2 dc 05 02", "m 1 dc 05 01", "m 1 dc 05 01", *by(2, status(6)), "m 2 dc 05 02"],
+        [("token-to-slave", 1, 3), ("token-to-slave", 1, 4)]),
+    # To all stations it has no reply as well.
+    "SDA to all stations": (
+        [Request(127, 58, b"\0\0", fc=SDA_LOW)], [("broadcast-needs-reply", 1, 1), ("sda-not-allowed", 1, 1)]),
     # With FCV 0 the same request is a new one after a tick, and after a token is passed on.
     "retries with FCV 0": ([*[ABSENT] * 6, "tick 10", *[ABSENT] * 4, TOKEN, ABSENT], [("retry-limit", 1, 5)]),
     "retries with FCV 1 after ticks and a token": (

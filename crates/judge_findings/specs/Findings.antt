@@ -19,7 +19,8 @@ address_words address = if address == global_address then codes " all slaves" el
 
 abbrev pub receiver_words : Entry → List ℕ
 receiver_words (entries.Request request) = address_words request.address
-receiver_words other = []
+receiver_words (entries.PassedToken to) = codes " slave " ++ decimal to
+receiver_words entries.Stray = []
 
 abbrev pub octets_of_entry : Entry → List ℕ
 octets_of_entry (entries.Request request) = request.octets.items
@@ -66,7 +67,8 @@ finding_rows_of judge entry place master rule =
 
 abbrev pub slave_json : Entry → List ℕ
 slave_json (entries.Request request) = decimal request.address
-slave_json other = codes "null"
+slave_json (entries.PassedToken to) = decimal to
+slave_json entries.Stray = codes "null"
 
 unfoldable pub rule_fields : JudgeRule → List ℕ
 rule_fields rule =

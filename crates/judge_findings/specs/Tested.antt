@@ -25,7 +25,7 @@ with_request exchanged tested = record {
 
 abbrev pub tested_after : Entry → Tested → Tested
 tested_after (entries.Request request) tested = with_request (is_exchanged request) tested
-tested_after entries.PassedToken tested = tested
+tested_after (entries.PassedToken to) tested = tested
 tested_after entries.Stray tested = tested
 
 -- ---- what is untested

@@ -10,7 +10,7 @@ use explain_octets::{Hex, HexPair};
 use judge_rules::Entry;
 use std::fmt;
 
-/// The receiver of an entry, with a space before it; nothing for an entry that is no request.
+/// The receiver of a request or of a token, with a space before it; nothing for other octets.
 #[derive(Clone, Copy)]
 pub(crate) struct ReceiverWords<'a>(pub(crate) &'a Entry);
 
@@ -27,7 +27,7 @@ impl<'a> fmt::Display for ReceiverWords<'a> {
                     write!(f, " slave {address}")
                 }
             }
-            Entry::PassedToken => Ok(()),
+            Entry::PassedToken(to) => write!(f, " slave {to}"),
             Entry::Stray => Ok(()),
         }
     }
@@ -46,13 +46,13 @@ impl<'a> fmt::Display for OctetsRow<'a> {
                 let octets = Hex(request.octets.as_slice());
                 write!(f, "  {octets}\n")
             }
-            Entry::PassedToken => Ok(()),
+            Entry::PassedToken(_) => Ok(()),
             Entry::Stray => Ok(()),
         }
     }
 }
 
-/// The address that an entry is sent to, as a value of JSON; `null` for an entry that is no request.
+/// The address that a request or a token is sent to, as a value of JSON; `null` for other octets.
 #[derive(Clone, Copy)]
 pub(crate) struct SlaveValue<'a>(pub(crate) &'a Entry);
 
@@ -65,7 +65,7 @@ impl<'a> fmt::Display for SlaveValue<'a> {
                 let address = request.address;
                 write!(f, "{address}")
             }
-            Entry::PassedToken => f.write_str("null"),
+            Entry::PassedToken(to) => write!(f, "{to}"),
             Entry::Stray => f.write_str("null"),
         }
     }
@@ -100,7 +100,7 @@ impl<'a> fmt::Display for EntryPairs<'a> {
                 let pairs = Pairs(request.octets.as_slice());
                 write!(f, "{pairs}")
             }
-            Entry::PassedToken => Ok(()),
+            Entry::PassedToken(_) => Ok(()),
             Entry::Stray => Ok(()),
         }
     }

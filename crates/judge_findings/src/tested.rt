@@ -32,7 +32,7 @@ impl Tested {
     {
         match entry {
             Entry::Request(request) => self.count(request),
-            Entry::PassedToken => {}
+            Entry::PassedToken(_) => {}
             Entry::Stray => {}
         }
     }

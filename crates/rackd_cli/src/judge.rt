@@ -67,8 +67,8 @@ Rules (docs/reference/judge.md says what each one reports):
   exchange-after-rs, exchange-of-other, length-repeated, diag-not-read, extension-missing,
   outputs-in-clear, prm-of-other, prm-short, prm-reserved, lock-and-unlock, min-tsdr,
   watchdog-zero, watchdog-short, group-not-set, control-both, control-reserved, control-length,
-  control-not-asked, control-with-srd, sdn-needs-reply, broadcast-needs-reply, unknown-point,
-  source-point, octets-not-allowed, no-request
+  control-not-asked, control-with-srd, sdn-needs-reply, broadcast-needs-reply, sda-not-allowed,
+  unknown-point, source-point, octets-not-allowed, token-to-slave, no-request
 
 With --json each finding is a line of JSON. With --junit standard output is JUnit XML, with one test
 case for each rule and master, and one for the text. A test case of what is untested is skipped.
