@@ -25,6 +25,7 @@ alone limit other bus before station earlier request rules.ControlLength is = re
 alone limit other bus before station earlier request rules.ControlWithSrd is = refl
 alone limit other bus before station earlier request rules.SdnNeedsReply is = refl
 alone limit other bus before station earlier request rules.BroadcastNeedsReply is = refl
+alone limit other bus before station earlier request rules.SdaNotAllowed is = refl
 alone limit other bus before station earlier request rules.UnknownPoint is = refl
 alone limit other bus before station earlier request rules.SourcePoint is = refl
 alone limit other bus before station earlier request rules.OctetsNotAllowed is = refl
