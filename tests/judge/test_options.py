@@ -49,9 +49,10 @@ def test_all_rules_are_named(text_of):
 @pytest.mark.parametrize("options", [
     ("--rules", "no-rule"), ("--rules", "fcb-first,"), ("--without", "no-rule"), ("--without", "fcb-first,"), ("--retries", "16"), ("--retries", "03"), ("--json", "--junit"),
     ("--master", "256"), ("--requests-at-least", "4294967296"), ("--exchanges-at-least", "-1"), ("--allow-untested", "1"),
+    ("--requests-at-least", "1", "--requests-at-least", "1"),
 ], ids="-".join)
 def test_wrong_words(text_of, options):
-    done = text_of().judge(*options)
+    done = text_of().judge_as_usual(*options)
     assert (done.status, done.output) == (2, "")
     assert done.errors
 
