@@ -63,7 +63,8 @@ command.
 
 Exit statuses of all commands:
   0  done
-  1  check, explain, judge, capture: the audit text is not legal; judge: a master broke a rule
+  1  check, explain, judge, capture: the audit text is not legal; judge: a master broke a rule,
+     or something is untested
   2  invalid arguments; input, a file, a rack or a script that is not accepted; a port that is in
      use, that no program listens on or that is closed too early; an audit file that cannot be made
   3  out of memory or threads
