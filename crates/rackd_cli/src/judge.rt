@@ -89,8 +89,7 @@ const RETRIES_HELP: &str = "Retries of a request that gets no answer: 0 to 15 [d
 
 const REQUESTS_HELP: &str = "Requests that each master must send: 0 to 4294967295 [default: 1]";
 
-const EXCHANGES_HELP: &str =
-    "Data_Exchanges that must be answered, of all masters [default: 1]";
+const EXCHANGES_HELP: &str = "Data_Exchanges that must be answered, of all masters [default: 1]";
 
 const ALLOW_UNTESTED_HELP: &str = "Exit with 0 even if something is untested";
 
