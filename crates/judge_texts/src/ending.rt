@@ -90,7 +90,7 @@ fn write_rows_end<W: Write>(
     buffer: &mut String,
     writer: &mut W,
 ) -> Result<(), ExplainFault>
-    ensures { Leaves (summary_rows summary.rules.now summary.least summary.seats.now ++ verdict_text verdict) (W.contents writer.old) (W.contents writer.new) result }
+    ensures { Leaves (summary_rows summary.entry.rules.now summary.entry.least summary.entry.seats.now ++ verdict_text verdict) (W.contents writer.old) (W.contents writer.new) result }
 {
     match write_text(&SummaryRows(summary), buffer, writer) {
         Ok(()) => write_verdict_row(verdict, writer),
@@ -105,7 +105,7 @@ fn write_lines_end<W: Write>(
     buffer: &mut String,
     writer: &mut W,
 ) -> Result<(), ExplainFault>
-    ensures { Leaves (summary_lines summary.rules.now summary.least summary.seats.now ++ verdict_json verdict) (W.contents writer.old) (W.contents writer.new) result }
+    ensures { Leaves (summary_lines summary.entry.rules.now summary.entry.least summary.entry.seats.now ++ verdict_json verdict) (W.contents writer.old) (W.contents writer.new) result }
 {
     match write_text(&SummaryLines(summary), buffer, writer) {
         Ok(()) => write_verdict_line(verdict, writer),
