@@ -1,9 +1,8 @@
 -- helper
 -- Examples of the statistics of a line with masters 1 and 2 and slave 5, after requests and ticks.
-use Rattle.std.specs.Prelude.{codes, ◌≡◌, ℕ, false, List, [], ◌∷◌, map, take, drop, filter, slice_get, refl}
+use Rattle.std.specs.Prelude.{◌≡◌, ℕ, false, List, [], ◌∷◌, map, slice_get, refl}
 use Rattle.std.specs.Option.{option_map_or}
 use Rattle.dp_responder.specs.declared.rule.Rule.TheVariants as rules
-use Rattle.dp_responder.specs.Rules.{all_rules, is_refusal}
 use Rattle.dp_line.specs.declared.event.Event.{Event}
 use Rattle.dp_line.specs.declared.event.Event.TheVariants.{Operator}
 use Rattle.dp_line.specs.declared.event.Op.TheVariants.{Tick}

@@ -1,6 +1,6 @@
 -- detail
 -- What a fact leaves on a writer, as rows and as lines of JSON (own).
-use Rattle.std.specs.Prelude.{codes, ℕ, List, [], ◌++◌, Bool, true, false, Option, Result}
+use Rattle.std.specs.Prelude.{codes, ℕ, List, [], ◌++◌, Option, Result}
 use Rattle.explain_events.specs.ExplainedEntries.{explained_entry_text}
 use Rattle.explain_texts.specs.declared.explain_fault.ExplainFault.{ExplainFault}
 use Rattle.explain_texts.specs.declared.fact_writer.FactWriter.{FactWriter}
