@@ -24,9 +24,9 @@ impl DueParts {
         }
     }
 
-    /// Makes each part due that is not among the newest `keep` ones and was not handed over. `newest` is the number of the newest
+    /// Adds the parts that are older than the newest `keep` parts and were not handed over. `newest` is the number of the newest
     /// part.
-    pub(crate) fn stay(&mut self, keep: u16, newest: u32)
+    pub(crate) fn add_older(&mut self, keep: u16, newest: u32)
         ensures handed_over { self.new.handed_over ≡ self.old.handed_over }
         ensures due { due self.new ≡ due_parts keep newest self.old.handed_over }
     {

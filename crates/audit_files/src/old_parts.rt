@@ -86,7 +86,7 @@ impl<'s, H: NewFiles + Wait + Log + Clock> OldParts<'s, H> {
     /// Makes the parts of a text due that are not among the newest ones that stay. `newest` is the number of its newest part, which
     /// has its head. Then puts due parts into the queue, the oldest first, until it is full. What is due then waits for the next call.
     pub(crate) fn put_due(&self, text: AuditName, newest: u32, due: &mut DueParts) {
-        due.stay(self.keep, newest);
+        due.add_older(self.keep, newest);
         while let Some(oldest) = due.oldest() {
             if !self.put(text.of_part(oldest)) {
                 return;
