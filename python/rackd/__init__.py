@@ -35,7 +35,8 @@ A rack is the program `rackd serve`, which ends with the `with` statement or wit
         port = line.port(2)                             # read, write and so on as pyserial's Serial
 
         journal = line.journal()                        # a sequence of Entry: place, event, reason, sentence and so on
-        journal.refused()[0].reason["holder"]           # a fact of the reason, here of its kind NotHolder
+        journal.refused()
+        journal[0].reason.kind, journal[0].reason.fields    # the facts of an answer; of NotHolder also reason["holder"]
         journal.explained.holds                         # also counts, stations, polls and verdict
         print(journal.explain(faults=True, slave=5))    # also first, last, master, refused, summary
         journal.judge(master=1)                         # what it did that the standard rules out, or did not try

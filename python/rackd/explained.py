@@ -213,10 +213,12 @@ Keys = Dict[str, Any]
 
 
 def octets_of(text: Optional[str]) -> Optional[bytes]:
+    """Returns the octets of a string of hex digits; None of null."""
     return None if text is None else bytes.fromhex(text)
 
 
 def why_of(keys: Optional[Keys]) -> Optional[Why]:
+    """Returns the reason of these keys; None of null."""
     if keys is None:
         return None
     fields = {key: value for key, value in keys.items() if key != "kind"}
@@ -224,6 +226,7 @@ def why_of(keys: Optional[Keys]) -> Optional[Why]:
 
 
 def event_of(keys: Keys) -> Event:
+    """Returns the event of these keys."""
     decoded = keys.get("decoded")
     fields = {key: value for key, value in keys.items() if key not in ("data", "octets", "decoded")}
     return Event(**fields, data=octets_of(keys.get("data")), octets=octets_of(keys.get("octets")),
@@ -231,6 +234,7 @@ def event_of(keys: Keys) -> Event:
 
 
 def change_of(keys: Keys) -> Change:
+    """Returns the change of these keys."""
     return Change(keys["slave"], Condition(**keys["before"]), Condition(**keys["after"]))
 
 

@@ -68,7 +68,7 @@ def test_rack_that_is_served_with_a_page(start_server, tmp_path):
             second.set_prm(5, 0x80A1)
         line = wait_for_line(port, shown, (5, "Data_Exch", 1, "1234"))
     last = line["recent"][-1]["entry"]
-    assert (last["refused"], last["master"], last["rule"]) == (True, 2, "NotHolder")
+    assert (last["refused"], last["master"], last["answer"]["rule"]) == (True, 2, "NotHolder")
     assert line["file"] == text_name()
 
 
