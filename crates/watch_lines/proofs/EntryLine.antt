@@ -26,7 +26,7 @@ line_by : {S : Type 0} (written : S → List ℕ) (known : KnownView) (event : E
     → (others : List ℕ) × (written now ≡ front_of known ++ others)
 line_by written known event before now none reports = (
   reports.1.0,
-  ap written reports.2 ∙ reports.1.1 ∙ ap (λ (text : List ℕ). text ++ front_of known ++ reports.1.0) none,
+  ap written reports.2 ∙ reports.1.1 ∙ ap (λ (text : List ℕ). text ++ (front_of known ++ reports.1.0)) none,
 )
 
 abbrev taken_row : Unit {0} → Result (Unit {0}) FollowFault
