@@ -8,7 +8,6 @@ use Rattle.std.specs.declared.io.traits.Write.{Ghosts}
 use Rattle.serve_log.proofs.notes.Notes.TheSendSync as notes
 use Rattle.audit_files.proofs.audit_writer.CreateFault.TheSendSync as fault
 use Rattle.audit_files.proofs.audit_writer.Part.TheSendSync as part
-use Rattle.audit_files.proofs.due_parts.DueParts.TheSendSync as due
 use Rattle.audit_files.proofs.line_times.LineTimes.TheSendSync as times
 use Rattle.audit_files.proofs.old_parts.OldParts.TheSendSync as old_parts
 use Rattle.audit_files.proofs.written_bytes.WrittenBytes.TheSendSync as bytes
@@ -34,7 +33,7 @@ writer_field H shared a s = struct_send (shape (writer.the_type a s H)) (
           search (sendable, crosses) depth 20,
           (
             search (sendable, crosses, part.the_send) depth 20,
-            (search (sendable, crosses, file_send) depth 40 fits 100000, (bytes.the_send, (search (sendable, crosses, fault.the_send) depth 20, (search (sendable, crosses, old_parts.the_sync s H) depth 60 fits 100000, (search (sendable, crosses, due.the_send) depth 20, (search (sendable, crosses, times.the_sync) depth 60 fits 100000, tt)))))),
+            (search (sendable, crosses, file_send) depth 40 fits 100000, (bytes.the_send, (search (sendable, crosses, fault.the_send) depth 20, (search (sendable, crosses, old_parts.the_sync s H) depth 60 fits 100000, (search (sendable, crosses) depth 20, (search (sendable, crosses, times.the_sync) depth 60 fits 100000, tt)))))),
           ),
         ),
       ),

@@ -1,7 +1,6 @@
 -- Which parts are due to be deleted.
-use Rattle.std.proofs.Common.{◌≡◌, ℕ, ◌+◌, ◌-◌, ◌<◌, ◌≤◌, List, [], ◌∷◌, length, drop, slice_get, Option, Some, None, zero, suc, refl, ap, sym, subst, arith, ◌∙◌}
-use Rattle.std.specs.Prelude.{All}
-use Rattle.audit_files.specs.DueParts.{due_parts, numbers_above}
+use Rattle.std.proofs.Common.{◌≡◌, ℕ, ◌+◌, ◌-◌, ◌<◌, ◌≤◌, List, [], ◌∷◌, length, drop, slice_get, Some, zero, suc, refl, ap, arith, ◌∙◌}
+use Rattle.audit_files.specs.DueParts.{numbers_above}
 
 -- if a part is due, the oldest one is that behind the last one that was handed over
 pub some_are_due : (before end : ℕ) → before < end → numbers_above before (end - before) ≡ (before + 1) ∷ numbers_above (before + 1) (end - (before + 1))

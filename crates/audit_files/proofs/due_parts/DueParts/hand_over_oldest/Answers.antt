@@ -1,4 +1,4 @@
-use Rattle.std.proofs.Common.{◌≡◌, ℕ, List, drop, ap, sym, arith, ◌∙◌}
+use Rattle.std.proofs.Common.{ℕ, List, drop, ap, sym, arith, ◌∙◌}
 use Rattle.audit_files.proofs.Due.{none_is_due, some_are_due}
 use Rattle.audit_files.proofs.due_parts.DueParts.hand_over_oldest.Goals as goal
 

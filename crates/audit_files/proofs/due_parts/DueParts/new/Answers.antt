@@ -1,4 +1,4 @@
-use Rattle.std.proofs.Common.{◌≡◌, [], refl}
+use Rattle.std.proofs.Common.{refl}
 use Rattle.audit_files.specs.DueParts.{numbers_above}
 use Rattle.audit_files.proofs.due_parts.DueParts.new.Goals as goal
 

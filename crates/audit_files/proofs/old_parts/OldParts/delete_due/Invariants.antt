@@ -1,4 +1,4 @@
-use Rattle.std.proofs.Common.{◌≡◌, ℕ, ◌+◌, ◌-◌, ◌*◌, ◌<◌, ◌≤◌, length}
+use Rattle.std.proofs.Common.{length}
 use Rattle.audit_files.specs.DueParts.{due}
 use Rattle.audit_files.proofs.old_parts.OldParts.delete_due.Given as goal
 
