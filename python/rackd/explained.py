@@ -6,6 +6,8 @@ from dataclasses import dataclass, field
 from types import MappingProxyType
 from typing import Any, Dict, List, Mapping, Optional, Tuple
 
+from .faults import RackError
+
 NO_FIELDS: Mapping[str, Any] = MappingProxyType({})
 # the version of the lines that are read
 VERSION = 2
@@ -253,12 +255,12 @@ def entry_of(keys: Keys) -> Entry:
 
 
 def explained_of(output: str) -> Explained:
-    """Returns what the lines of `rackd explain --json` say. Raises ValueError for lines of another version."""
+    """Returns what the lines of `rackd explain --json` say. Raises RackError for lines of another version."""
     lines: Dict[str, List[Keys]] = {}
     for row in output.splitlines():
         keys = json.loads(row)
         if keys.pop("version", None) != VERSION:
-            raise ValueError(f"these lines are not of version {VERSION}: {row[:60]}")
+            raise RackError(f"these lines of rackd explain are not of version {VERSION}: {row[:60]}")
         lines.setdefault(keys.pop("kind"), []).append(keys)
     return Explained(
         entries=tuple(entry_of(keys) for keys in lines.get("entry", ())),

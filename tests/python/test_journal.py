@@ -3,8 +3,8 @@ import re
 
 import pytest
 
-from rackd import (RS, Change, Condition, Decoded, Hold, Journal, NoReply, Part, RackFault, Release, StationCount, Verdict, WayCount,
-                   Why)
+from rackd import (RS, Change, Condition, Decoded, Hold, Journal, NoReply, Part, RackError, RackFault, Release, StationCount,
+                   Verdict, WayCount, Why)
 from rackd.explained import explained_of
 from rackd.frames import sd1, sd2
 
@@ -90,7 +90,7 @@ def test_summary(filled):
 
 
 def test_lines_of_another_version():
-    with pytest.raises(ValueError, match="not of version 2"):
+    with pytest.raises(RackError, match="not of version 2"):
         explained_of('{"verdict":"legal","entries":1}\n')
 
 
