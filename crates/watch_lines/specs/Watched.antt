@@ -16,7 +16,6 @@ use Rattle.explain_texts.specs.JsonValues.{string_json}
 use Rattle.explain_texts.specs.Behind.{follower_behind}
 use Rattle.explain_texts.specs.Followed.{FollowerView, after_row, event_taken, first_follower}
 use Rattle.explain_texts.specs.Json.{entry_front}
-use Rattle.explain_texts.specs.Known.{KnownView}
 use Rattle.watch_lines.specs.declared.kept_entry.KeptEntry.{KeptEntry}
 use Rattle.watch_lines.specs.declared.watched_line.Header.{Header}
 use Rattle.watch_lines.specs.declared.watched_line.Header.TheVariants as headers
