@@ -59,7 +59,7 @@ opened_masters endless [] = refl
 opened_masters true (line ∷ lines) = ap (λ ms. line.spec.masters.items ∷ ms) (opened_masters true lines)
 opened_masters false (line ∷ lines) = ap (λ ms. line.spec.masters.items ∷ ms) (opened_masters false lines)
 
-pub one_opened : (endless : Bool) (line : ServedLine) → (as_opened endless line).spec.masters ≡ line.spec.masters
+pub one_opened : (endless : Bool) (line : ServedLine) → (as_opened endless line).spec.masters.items ≡ line.spec.masters.items
 one_opened true line = refl
 one_opened false line = refl
 

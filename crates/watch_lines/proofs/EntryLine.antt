@@ -25,9 +25,9 @@ front_of known = entry_front (known.context.world.count + 1)
 line_by : {S : Type 0} (written : S → List ℕ) (known : KnownView) (event : Event) (before now : S) → written before ≡ [] → Reports (TakesLines written) before now (reported_event every_entry known.context event)
     → (others : List ℕ) × (written now ≡ front_of known ++ others)
 line_by written known event before now none reports = (
-      reports.1.0,
-      ap written reports.2 ∙ reports.1.1 ∙ ap (λ (text : List ℕ). text ++ (front_of known ++ reports.1.0)) none,
-    )
+  reports.1.0,
+  ap written reports.2 ∙ reports.1.1 ∙ ap (λ (text : List ℕ). text ++ (front_of known ++ reports.1.0)) none,
+)
 
 abbrev taken_row : Unit {0} → Result (Unit {0}) FollowFault
 taken_row done = Ok done

@@ -1,7 +1,6 @@
 use Rattle.std.proofs.Common.{rules, ◌≡◌, ◌∷◌, ◌++◌, [], Some, length, sym, subst, ap, ◌∙◌, arith}
 use Rattle.std.proofs.lemmas.List.{length_push}
 use Rattle.std.proofs.lemmas.List.Elements.{All-head, All-pop, All-push, All-rest, All-same}
-use Rattle.arrayvec.specs.ArrayVec.{ArrayVec}
 use Rattle.dp_sessions.specs.Pools.{HasSeats, IsSeatAt}
 use Rattle.serve_lines.proofs.Opening.{new_seats, one_more_seat, one_opened}
 use Rattle.serve_lines.proofs.opened_lines.OpenedLines.with_line.Goals as goal
@@ -44,6 +43,5 @@ pub returns-clause-line : goal.returns-clause-line
 returns-clause-line c = (
   record { line = c.in_ok-line.line; claims = c.in-Ok.claims },
   search rules,
-  search rules,
-  c.in-Ok.ensures.claims.0 ∙ sym (ap (λ (masters : ArrayVec ℕ). masters.items) (one_opened c.args.is_endless c.args.line)),
+  (search rules, c.in-Ok.ensures.claims.0 ∙ sym (one_opened c.args.is_endless c.args.line)),
 )
