@@ -31,7 +31,7 @@ def exchanges(count, least=1):
     ([*bring_up(), exchange()], [requests(2, 0)]),
     (by(2, *bring_up(), exchange()), [requests(1, 0)]),
     (TESTED, []),
-], ids=["no entries", "no requests", "one request", "no exchange", "one master", "the other master", "tested"])
+], ids=["no-entries", "no-requests", "one-request", "no-exchange", "one-master", "the-other-master", "tested"])
 def test_summary(text_of, script, rows):
     done = text_of(*script).judge_as_usual()
     assert (rows_of(done), done.status) == (rows, 1 if rows else 0)
@@ -48,7 +48,7 @@ def test_summary(text_of, script, rows):
     ([*bring_up(), "diag 5 e 0407", exchange()], 1),
     # Each master has one.
     ([*bring_up(), exchange(), *by(2, *bring_up(6), exchange(b"\x07", slave=6))], 2),
-], ids=["refused", "repeated", "acknowledged", "with high priority", "of two masters"])
+], ids=["refused", "repeated", "acknowledged", "with-high-priority", "of-two-masters"])
 def test_answered_exchanges(text_of, script, count):
     """One more than there are is too many."""
     text = text_of(*script)
