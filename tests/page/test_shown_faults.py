@@ -125,6 +125,16 @@ def test_other_faults(shown):
     assert page.reason()["change"] == "slave 9: Wait_Cfg, held by master 1 → Wait_Prm, held by nobody"
 
 
+def test_surprising_answer(shown):
+    """What was done, though hardly meant so, is a fault with a name of its own."""
+    page = shown.open()
+    shown.follow(request(16, 2, 12, "Set_Prm", "done: min TSDR is 20. Lock_Req is missing: nobody holds the slave.",
+                         fault=True, surprising=True))
+    assert len(page.groups("faults")) == 3
+    shown.tab.click("#faults tbody tr:nth-child(1) button")
+    until_equal(page.heading, "master 2 → slave 12: Set_Prm fault, surprising")
+
+
 def test_faults_are_in_view(shown):
     """Two masters at a slave, a watchdog that ran out and a wrong ident are in view without a click, at 1,440 pixels."""
     shown.tab.look(1440, 900, "light")
