@@ -70,6 +70,8 @@ def serve_past_the_last_place(serve, folder):
     late.shutdown(socket.SHUT_WR)
     # its session ends once it has taken all octets
     assert late.recv(1) == b""
+    # a signal ends the rack at once, also if rows of its log wait to be written
+    wait_for(lambda: "halted, by its operator\n" in server.errors())
     server.send_signal(signal.SIGTERM)
     return server.rack, server.wait().errors
 
