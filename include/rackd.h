@@ -174,7 +174,7 @@ uint32_t rackd_feed(rackd_rack *rack, uint8_t line, uint8_t master, const uint8_
 uint32_t rackd_next(rackd_rack *rack, uint8_t line, uint8_t master, uint8_t *piece, uint8_t *reply, size_t room,
                     size_t *count, uint8_t *rule, uint32_t *place);
 
-/* Lets `units` of 10 ms pass on a line. No time passes otherwise. */
+/* Lets `units` of 10 ms pass on a line. Otherwise time passes only by the command `tick` of rackd_operate. */
 uint32_t rackd_tick(rackd_rack *rack, uint8_t line, uint32_t units);
 
 /* Obeys a line of an operator, without its LF, as `in 5 0102` or `show 5`. The answer is that of an operator's port, with
