@@ -48,7 +48,7 @@ A rack is the program `rackd serve`, which ends with the `with` statement or wit
 Exceptions are RackErrors. A slave that refuses raises UE, RR or RS; a line that refuses a command raises NoStation,
 WrongLength, UnknownPoint or Halted; silence raises NoReply; a cable that refuses an order raises NotACommand
 or TooMany. RackFault is a rack or a cable that cannot start or ends early, NotLegal a journal that `rackd check`
-refuses. For pytest there are the fixtures rack, rack_factory and rack_toml.
+refuses. For pytest there are the fixtures rack, rack_factory, embedded_rack and rack_toml.
 """
 from .cable import Cable, RunningCable
 from .embedded import EmbeddedLine, EmbeddedRack
