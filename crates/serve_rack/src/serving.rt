@@ -241,7 +241,7 @@ fn serve_named<'a, 's, J: Naming + Send + Sync, H: Host + Sync, W: Write>(
     ensures incomplete { IfOk result (λ outcome. IfSome outcome.incomplete (λ file. IsPartOfOne (paths_of recorders.entry.items) file.path)) }
     ensures err { IfErr result (λ fault. ServesConnections (map place_at listening.entry.workers.ports.now) (W.contents writer.old) (W.contents writer.new) (Err fault)) }
 {
-    let (rt, alloc) = (context.sockets.rt, context.alloc);
+    let (rt, alloc, times) = (context.sockets.rt, context.alloc, context.times);
     let Some(recorders) = name_trails::<H, J>(alloc, recorders) else {
         return Err(OutputFault::OutOfMemory);
     };
@@ -249,7 +249,7 @@ fn serve_named<'a, 's, J: Naming + Send + Sync, H: Host + Sync, W: Write>(
     match served {
         Ok(rack) => {
             let incomplete = first_incomplete(rt, recorders);
-            write_rest(context.times);
+            write_rest(times);
             Ok(ServingOutcome { rack, incomplete })
         }
         Err(fault) => Err(fault),
