@@ -83,24 +83,26 @@ def entry_places(text):
 
 
 def test_each_part_has_its_times(serve, tmp_path):
-    """The rows of each file are in order, and each entry of its part is between two of them. That of the newest part has the last
-    entry."""
+    """The rows of each file are in order, and each entry of its part is between two of them. Those of all files begin at the first
+    entry and end at the last one."""
     folder = tmp_path / "audit"
     server = serve(rack_of_sixteen(), "--audit", folder, *SMALL_PARTS, "--until-input-ends", piped=True)
-    load = SilentLoad(server, 100, tokens(100), until=(folder / "line-1-1.000003.audit").exists)
+    load = SilentLoad(server, 100, tokens(100), until=lambda: len(list(folder.glob("*.times"))) >= 3)
     load.start()
     load.finish()
     server.end_input()
     server.wait()
-    entries = {path.name: entry_places(path.read_bytes()) for path in part_paths(folder)}
-    # the last part may have its head only
-    of_parts = [(name, found) for name, found in entries.items() if found]
-    assert len(of_parts) >= 2
-    for name, found in of_parts:
-        places = [place for place, _ in time_rows(folder / times_name(name))]
-        assert places == sorted(set(places)), name
-        assert places[0] <= found[0] and found[-1] <= places[-1], name
-    assert places[-1] == found[-1]
+    # the last part may have its head only, and a part that begins and ends between two writes has no file of times
+    entries = [(path.name, found) for path in part_paths(folder) if (found := entry_places(path.read_bytes()))]
+    places = {name: [place for place, _ in time_rows(folder / times_name(name))] for name, _ in entries
+              if (folder / times_name(name)).exists()}
+    assert len(places) >= 2
+    for name, found in entries:
+        if name in places:
+            assert places[name] == sorted(set(places[name])), name
+            assert places[name][0] <= found[0] and found[-1] <= places[name][-1], name
+    written = [place for part in places.values() for place in part]
+    assert (min(written), max(written)) == (1, entries[-1][1][-1])
 
 
 def test_replies_do_not_wait_for_times(serve, tmp_path):
