@@ -59,18 +59,20 @@ def test_second_worker(serve, run, tmp_path):
 
 @pytest.fixture
 def deleting(tmp_path):
-    """Words by which one more thread is needed: it deletes old parts of audit texts, and is started before those that serve."""
+    """Words by which two more threads are needed: one deletes old parts of audit texts, and then one writes the times of entries.
+    Both are started before those that serve."""
     return ["--audit", tmp_path / "parts", "--endless", "--keep", "2"]
 
 
 def test_before_ready_with_the_thread_that_deletes(start_server, deleting):
-    server = start_server(rack(workers=2), *deleting, wrapper=wrapper(21))
+    server = start_server(rack(workers=2), *deleting, wrapper=wrapper(22))
     assert server.wait() == (3, "", OUT_OF_MEMORY)
 
 
-@pytest.mark.parametrize("threads", [22, 23])
+@pytest.mark.parametrize("threads", [23, 24, 25])
 def test_thread_that_deletes(serve, deleting, threads):
-    """With 22 it is refused itself, and with 23 the first operator's. The audit texts are in files, not on standard output."""
+    """With 23 it is refused itself, with 24 the one that writes times, and with 25 the first operator's. The audit texts are in
+    files, not on standard output."""
     server = serve(rack(workers=2), *deleting, wrapper=wrapper(threads))
     assert server.wait() == (3, "", OUT_OF_MEMORY)
 
