@@ -11,7 +11,7 @@ import time
 import weakref
 from pathlib import Path
 from types import TracebackType
-from typing import Dict, List, Optional, Sequence, Type, Union
+from typing import Dict, List, Optional, Sequence, Tuple, Type, Union
 
 from .cable import Cable, RunningCable
 from .faults import NotLegal, RackError, RackFault, end_of
@@ -100,22 +100,23 @@ class Line:
         If the rack deletes old parts of it (`--keep`), it begins with the oldest entry that is there. The times of its last
         entries may be missing, since the rack writes them every 100 ms.
         """
-        parts = self._parts()
+        files, parts = self._parts()
         # a later part whose head may not be whole yet
         if len(parts) > 1 and not re.search(rb"^[0-9]", parts[-1], re.MULTILINE):
             parts.pop()
-        times = times_beside(self.number, self.files())
+        times = times_beside(self.number, files)
         return Journal(self._rack.program, self._rack.text, b"".join(parts), times)
 
     def why(self, place: int) -> Reason:
         """Returns why the entry at a place of the journal has its outcome. Raises RackError if there is no such entry."""
         return self.journal().why(place)
 
-    def _parts(self) -> List[bytes]:
-        """Returns what the files of the journal have."""
+    def _parts(self) -> Tuple[List[Path], List[bytes]]:
+        """Returns the files of the journal, and what each of them contains."""
         while True:
+            files = self.files()
             try:
-                return [path.read_bytes() for path in self.files()]
+                return files, [path.read_bytes() for path in files]
             except FileNotFoundError:
                 # the rack has deleted an old part meanwhile
                 continue
