@@ -145,7 +145,7 @@ def test_readme_is_right_of_an_installation(copied, read_in, tmp_path):
     prefix = tmp_path / "prefix"
     subprocess.run([folder / "install", prefix], check=True, stdin=subprocess.DEVNULL, stdout=subprocess.DEVNULL, timeout=3 * PATIENCE)
     text = with_ports(read("README.md"), ports)
-    assert "type `rackd` for `./rackd` in what follows, in the folder `~/.local/share/rackd`" in text
+    assert "the commands below work in the folder `~/.local/share/rackd`" in text
     reader = read_in(prefix / "share/rackd", prefix / "bin")
     follow_readme(reader, text.replace("    ./rackd ", "    rackd "), ports["7300"], is_installed=True)
 
